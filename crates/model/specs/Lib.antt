@@ -1,0 +1,13 @@
+pub mod Sheet
+pub mod Readings
+pub mod References
+pub mod Comparison
+pub mod Split
+pub mod Ratio
+pub mod Sorting
+pub mod Values
+pub mod Rule
+pub mod Run
+pub mod Answer
+pub mod Job
+pub mod Columns
