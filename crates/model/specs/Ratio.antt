@@ -1,5 +1,5 @@
--- Ratio and colour: a value's place between two ends in parts per million, and a colour between two colours (document 01, 'Ratio and colour').
--- Each operation on floats is IEEE 754's, rounded once. Assumes nothing.
+-- Ratio and colour: a value's place between two ends in parts per million, and a colour between two colours
+-- (document 01, 'Ratio and colour'). Each operation on floats is IEEE 754's, rounded once. Assumes nothing.
 use Prim.Native.Nat.{ℕ, _+_, _-_, _*_, _/_, _^_, min}
 use mathlib.Core.Bool.{false, cond}
 use lib.IntN.{ℤ, pos, negsuc, _+ℤ_, _-ℤ_, _*ℤ_}

@@ -46,7 +46,8 @@ joined Axis.Outside col = Referenced.Nowhere
 unfoldable pub referenceCoordinate : Sheet → Range → CellCoordinate → A1Reference → Referenced
 referenceCoordinate s r target f =
     cond (namesSheet s (f .sheet))
-    (joined (axis (f .«row_absolute») (target .row) (f .row) (r .top) maxRow) (axis (f .«col_absolute») (target .col) (f .col) (r .left) maxCol))
+    (joined (axis (f .«row_absolute») (target .row) (f .row) (r .top) maxRow)
+    (axis (f .«col_absolute») (target .col) (f .col) (r .left) maxCol))
     Referenced.Nowhere
 
 unfoldable pub numericReferenced : Sheet → Referenced → Reading

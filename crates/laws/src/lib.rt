@@ -1,0 +1,1 @@
+// Laws of the definitions of charging and model. No code.
