@@ -71,7 +71,7 @@ roomy-spaces j l = go (ltb (l .barRules) (regionCount j)) (ltb (l .barPpms) (reg
 module _ (j : Job) (limit : ℕ) (l : Lengths) where
   states-length : length (runOf j .states) ≡ regionCount j
   unfolding runOf sheetOf
-  states-length = run-states (sheetOf j) (rulesOf j) ∙ regions-length j 0 (regionCount j)
+  states-length = run-states (sheetOf j) (rulesOf j) ∙ regions-length (j .regionRows) (j .regionCols) 0 (regionCount j)
 
   pub whole-columns : WholeJob j limit l → columnsOf j limit l ≡ written (answered (reached j) (runOf j)) l
   unfolding columnsOf

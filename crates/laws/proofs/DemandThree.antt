@@ -27,7 +27,7 @@ module _ (j : Job) where
   unfolding runOf sheetOf
   charges-bound =
       subst₂ (λ (regions cells : ℕ). AtMost (length (rulesOf j) * (regions + cells) + duplicateAreas (rulesOf j)) (runOf j .charges))
-      (regions-length j 0 (regionCount j)) (cells-length j 0 (cellCount j)) (run-bound (sheetOf j) (rulesOf j))
+      (regions-length (j .regionRows) (j .regionCols) 0 (regionCount j)) (cells-length (j .cells) 0 (cellCount j)) (run-bound (sheetOf j) (rulesOf j))
 
   module _ (limit : ℕ) (l : Lengths) where
     -- an answered job is the whole run

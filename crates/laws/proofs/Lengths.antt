@@ -11,11 +11,10 @@ use Rattle.charging.specs.Charge.{Charge, one}
 use Rattle.model.specs.declared.Plan.{Plan}
 use Rattle.model.specs.declared.Outcome.{Outcome}
 use Rattle.model.specs.declared.Rule.{Rule}
-use Rattle.model.specs.Sheet.{Sheet}
+use Rattle.model.specs.Sheet.{Sheet, CellColumns, cellsFrom, regionsFrom}
 use Rattle.model.specs.Rule as Rule
 use Rattle.model.specs.Run as Run
 use Rattle.model.specs.Run.{Run, RegionState, IndexedRule}
-use Rattle.model.specs.Job.{Job, cellsFrom, regionsFrom}
 use Rattle.model.specs.Columns.{column}
 
 -- ---- the states of a run
@@ -67,15 +66,15 @@ run-states s rules =
 
 -- ---- a job's cells and regions
 
-pub cells-length : (j : Job) (i n : ℕ) → length (cellsFrom j i n) ≡ n
+pub cells-length : (c : CellColumns) (i n : ℕ) → length (cellsFrom c i n) ≡ n
 unfolding cellsFrom
-cells-length j i zero = refl
-cells-length j i (suc n) = ap suc (cells-length j (suc i) n)
+cells-length c i zero = refl
+cells-length c i (suc n) = ap suc (cells-length c (suc i) n)
 
-pub regions-length : (j : Job) (i n : ℕ) → length (regionsFrom j i n) ≡ n
+pub regions-length : (rows cols : List ℕ) (i n : ℕ) → length (regionsFrom rows cols i n) ≡ n
 unfolding regionsFrom
-regions-length j i zero = refl
-regions-length j i (suc n) = ap suc (regions-length j (suc i) n)
+regions-length rows cols i zero = refl
+regions-length rows cols i (suc n) = ap suc (regions-length rows cols (suc i) n)
 
 -- ---- columns
 

@@ -19,7 +19,7 @@ use Rattle.model.specs.Columns as Columns
 unfoldable pub leaves : Unit {0}
 unfolding Ieee.ofBits Ieee.toBits Ieee.ofInt Ieee.neg Ieee.add Ieee.sub Ieee.mul Ieee.div Ieee.lt Ieee.le Ieee.eq Ieee.ne
     Charge.size Charge.stored Charge.charge Charge.andThen Charge.spend Charge.total
-    Sheet.textAt Sheet.sameCoordinate Sheet.cellAt Sheet.inRange Sheet.upright Sheet.withinGrid Sheet.area
+    Sheet.textAt Sheet.sameCoordinate Sheet.cellAt Sheet.valueOf Sheet.cellFrom Sheet.cellsFrom Sheet.regionsFrom Sheet.inRange Sheet.upright Sheet.withinGrid Sheet.area
     Readings.finite Readings.numericValue Readings.numericCellValue Readings.numericAt Readings.lower Readings.every Readings.ascii
     Readings.sameBytes Readings.sameLetters Readings.keyBits Readings.plainText Readings.keyOfValue Readings.conditionalValueKey
     Readings.sameKey Readings.hasKey Readings.keyAt
@@ -44,7 +44,7 @@ unfolding leaves
     Run.unmarked Run.tested Run.carriedOut Run.step Run.followedBy Run.runFrom Run.precedenceOf Run.earlier Run.indexedFrom Run.ordered Run.run
     Answer.refusal Answer.answer Answer.summary Answer.refused Answer.answered Answer.settled Answer.limited
     Job.markSpace Job.rulesOf Job.firstFrom Job.offGrid Job.rises Job.fallsAt Job.firstFall Job.outside Job.badValue Job.badName
-    Job.badOperand Job.badKind Job.firstBadRule Job.lengthsDiffer Job.tooMany Job.badCellAt Job.badRegionAt Job.refuseAt Job.refuseIf
-    Job.firstOf Job.malformed Job.spaceShort Job.valueOf Job.cellFrom Job.cellsFrom Job.regionsFrom Job.sheetOf Job.runOf Job.result
+    Job.badCellAt Job.badRegionAt Job.badOperand Job.badKind Job.firstBadRule Job.lengthsDiffer Job.tooMany Job.refuseAt Job.refuseIf
+    Job.firstOf Job.malformed Job.spaceShort Job.sheetOf Job.runOf Job.result
     Columns.column Columns.written Columns.columnsOf
 jobs = tt

@@ -6,29 +6,20 @@ use mathlib.Core.List.{List, [], _∷_}
 use mathlib.Core.Option.{Option, none, some}
 use lib.Dec.{leb, ltb, eqb}
 use lib.ListN.{length, take, getD}
-use lib.Ieee.{Float, binary64, ofBits}
 use Rattle.model.specs.declared.Span.{Span}
-use Rattle.model.specs.declared.CellCoordinate.{CellCoordinate}
-use Rattle.model.specs.declared.CellValue.{CellValue}
 use Rattle.model.specs.declared.SheetName.{SheetName}
 use Rattle.model.specs.declared.ConditionalOperand.{ConditionalOperand}
 use Rattle.model.specs.declared.CfRule.{CfRule}
 use Rattle.model.specs.declared.Rule.{Rule}
 use Rattle.model.specs.declared.Rules.{Rules}
-use Rattle.model.specs.Sheet.{Sheet, CellAt, maxRow, maxCol}
+use Rattle.model.specs.Sheet.{Sheet, CellColumns, maxRow, maxCol, cellsFrom, regionsFrom}
 use Rattle.model.specs.Comparison.{usesSecond}
 use Rattle.model.specs.Run.{Run, run}
 use Rattle.model.specs.Answer.{Summary, Result, refusal, refused, limited}
 
--- the seven cell columns, the two region columns, the pool, the sheet's name, the rules, and S. `nums` holds bit patterns.
+-- the cell columns, the two region columns, the pool, the sheet's name, the rules, and S
 pub record Job : Type 0 where
-  pub rows : List ℕ
-  pub cols : List ℕ
-  pub kinds : List ℕ
-  pub wraps : List ℕ
-  pub nums : List ℕ
-  pub ats : List ℕ
-  pub lens : List ℕ
+  pub cells : CellColumns
   pub regionRows : List ℕ
   pub regionCols : List ℕ
   pub pool : List ℕ
@@ -79,10 +70,17 @@ firstFall rows cols = firstFrom (fallsAt rows cols) 1 (length rows - 1)
 unfoldable pub outside : List ℕ → Span → Bool
 outside pool s = ltb (length pool) (s .at + s .len)
 
--- kinds are 1 number, 2 date, 3 text, 4 bool and 5 error
 unfoldable pub badValue : List ℕ → ℕ → ℕ → ℕ → Bool
 badValue pool kind at len =
     eqb kind 0 || ltb 5 kind || (eqb kind 3 && outside pool (record { at = at; len = len })) || (eqb kind 4 && ltb 1 len)
+
+-- a cell off the grid, of an unknown kind, a text outside the pool, a bool that is not 0 or 1
+unfoldable pub badCellAt : List ℕ → CellColumns → ℕ → Bool
+badCellAt pool c i =
+    offGrid (getD (c .rows) i 0) (getD (c .cols) i 0) || badValue pool (getD (c .kinds) i 0) (getD (c .ats) i 0) (getD (c .lens) i 0)
+
+unfoldable pub badRegionAt : List ℕ → List ℕ → ℕ → Bool
+badRegionAt rows cols i = offGrid (getD rows i 0) (getD cols i 0)
 
 unfoldable pub badName : List ℕ → SheetName → Bool
 badName pool SheetName.This = false
@@ -110,27 +108,20 @@ firstBadRule pool i (r ∷ rs) = let later = firstBadRule pool (suc i) rs in con
 
 module _ (j : Job) where
   abbrev pub cellCount : ℕ
-  cellCount = length (j .rows)
+  cellCount = length (j .cells .rows)
 
   abbrev pub regionCount : ℕ
   regionCount = length (j .regionRows)
 
   unfoldable pub lengthsDiffer : Bool
   lengthsDiffer =
-      not (eqb (length (j .cols)) cellCount && eqb (length (j .kinds)) cellCount && eqb (length (j .wraps)) cellCount
-      && eqb (length (j .nums)) cellCount && eqb (length (j .ats)) cellCount && eqb (length (j .lens)) cellCount
+      let c = j .cells in
+      not (eqb (length (c .cols)) cellCount && eqb (length (c .kinds)) cellCount && eqb (length (c .wraps)) cellCount
+      && eqb (length (c .nums)) cellCount && eqb (length (c .ats)) cellCount && eqb (length (c .lens)) cellCount
       && eqb (length (j .regionCols)) regionCount)
 
   unfoldable pub tooMany : Bool
   tooMany = ltb 1024 cellCount || ltb 1024 regionCount || ltb 64 (j .rules .number) || ltb 65_536 (length (j .pool))
-
-  unfoldable pub badCellAt : ℕ → Bool
-  badCellAt i =
-      offGrid (getD (j .rows) i 0) (getD (j .cols) i 0)
-      || badValue (j .pool) (getD (j .kinds) i 0) (getD (j .ats) i 0) (getD (j .lens) i 0)
-
-  unfoldable pub badRegionAt : ℕ → Bool
-  badRegionAt i = offGrid (getD (j .regionRows) i 0) (getD (j .regionCols) i 0)
 
   -- a refusal ahead of any charge: place, S, 0
   unfoldable pub refuseAt : ℕ → Option ℕ → Option Summary
@@ -151,9 +142,9 @@ malformed j =
     firstOf (
     refuseIf j 1 0 (lengthsDiffer j)
     ∷ refuseIf j 2 0 (tooMany j)
-    ∷ refuseAt j 3 (firstFrom (badCellAt j) 0 (cellCount j))
-    ∷ refuseAt j 3 (firstFrom (badRegionAt j) 0 (regionCount j))
-    ∷ refuseAt j 4 (firstFall (j .rows) (j .cols))
+    ∷ refuseAt j 3 (firstFrom (badCellAt (j .pool) (j .cells)) 0 (cellCount j))
+    ∷ refuseAt j 3 (firstFrom (badRegionAt (j .regionRows) (j .regionCols)) 0 (regionCount j))
+    ∷ refuseAt j 4 (firstFall (j .cells .rows) (j .cells .cols))
     ∷ refuseAt j 4 (firstFall (j .regionRows) (j .regionCols))
     ∷ refuseAt j 5 (firstBadRule (j .pool) 0 (rulesOf j))
     ∷ refuseIf j 5 64 (outside (j .pool) (j .name))
@@ -164,40 +155,16 @@ unfoldable pub spaceShort : Job → Lengths → Option Summary
 spaceShort j l =
     refuseIf j 6 0 (ltb (l .barRules) (regionCount j) || ltb (l .barPpms) (regionCount j) || ltb (l .scratch) (cellCount j))
 
--- ---- the sheet that is lent
-
-unfoldable pub valueOf : ℕ → ℕ → ℕ → ℕ → CellValue
-valueOf kind bits at len =
-    cond (eqb kind 1) (CellValue.Number (ofBits binary64 bits))
-    (cond (eqb kind 2) (CellValue.Date (ofBits binary64 bits))
-    (cond (eqb kind 3) (CellValue.Text (record { at = at; len = len }))
-    (cond (eqb kind 4) (CellValue.Bool (eqb len 1)) CellValue.Error)))
-
-unfoldable pub cellFrom : Job → ℕ → CellAt
-cellFrom j i =
-    record {
-      at = record { row = getD (j .rows) i 0; col = getD (j .cols) i 0 };
-      cell = record {
-        value = valueOf (getD (j .kinds) i 0) (getD (j .nums) i 0) (getD (j .ats) i 0) (getD (j .lens) i 0);
-        wraps = getD (j .wraps) i 0;
-      };
-    }
-
--- the n cells from index i on
-unfoldable pub cellsFrom : Job → ℕ → ℕ → List CellAt
-cellsFrom j i zero = []
-cellsFrom j i (suc n) = cellFrom j i ∷ cellsFrom j (suc i) n
-
--- the n regions from index i on
-unfoldable pub regionsFrom : Job → ℕ → ℕ → List CellCoordinate
-regionsFrom j i zero = []
-regionsFrom j i (suc n) = record { row = getD (j .regionRows) i 0; col = getD (j .regionCols) i 0 } ∷ regionsFrom j (suc i) n
+-- ---- the result
 
 unfoldable pub sheetOf : Job → Sheet
 sheetOf j =
-    record { cells = cellsFrom j 0 (cellCount j); regions = regionsFrom j 0 (regionCount j); pool = j .pool; name = j .name }
-
--- ---- the result
+    record {
+      cells = cellsFrom (j .cells) 0 (cellCount j);
+      regions = regionsFrom (j .regionRows) (j .regionCols) 0 (regionCount j);
+      pool = j .pool;
+      name = j .name;
+    }
 
 -- the run of a job without a limit
 unfoldable pub runOf : Job → Run

@@ -1,12 +1,14 @@
--- The lent sheet as lists: cells and regions where they stand, the pool of bytes, and ranges of cells (document 01, 'The lent sheet').
+-- The lent sheet: its columns, the cells and regions that they hold, and ranges of cells (document 01, 'The lent sheet').
 -- Assumes nothing.
-use Prim.Native.Nat.{ℕ, suc, _-_, _*_}
+use Prim.Native.Nat.{ℕ, zero, suc, _-_, _*_}
 use mathlib.Core.Bool.{Bool, cond, _&&_}
 use mathlib.Core.List.{List, [], _∷_}
 use mathlib.Core.Option.{Option, none, some}
 use lib.Dec.{leb, eqb}
-use lib.ListN.{take, drop}
+use lib.ListN.{take, drop, getD}
+use lib.Ieee.{binary64, ofBits}
 use Rattle.model.specs.declared.Span.{Span}
+use Rattle.model.specs.declared.CellValue.{CellValue}
 use Rattle.model.specs.declared.Cell.{Cell}
 use Rattle.model.specs.declared.CellCoordinate.{CellCoordinate}
 use Rattle.model.specs.declared.Range.{Range}
@@ -41,6 +43,46 @@ sameCoordinate a b = eqb (a .row) (b .row) && eqb (a .col) (b .col)
 unfoldable pub cellAt : List CellAt → CellCoordinate → Option Cell
 cellAt [] at = none
 cellAt (c ∷ cs) at = let later = cellAt cs at in cond (sameCoordinate (c .at) at) (some (c .cell)) later
+
+-- ---- the columns
+
+-- the seven cell columns; `nums` holds bit patterns
+pub record CellColumns : Type 0 where
+  pub rows : List ℕ
+  pub cols : List ℕ
+  pub kinds : List ℕ
+  pub wraps : List ℕ
+  pub nums : List ℕ
+  pub ats : List ℕ
+  pub lens : List ℕ
+
+-- kinds are 1 number, 2 date, 3 text, 4 bool and 5 error
+unfoldable pub valueOf : ℕ → ℕ → ℕ → ℕ → CellValue
+valueOf kind bits at len =
+    cond (eqb kind 1) (CellValue.Number (ofBits binary64 bits))
+    (cond (eqb kind 2) (CellValue.Date (ofBits binary64 bits))
+    (cond (eqb kind 3) (CellValue.Text (record { at = at; len = len }))
+    (cond (eqb kind 4) (CellValue.Bool (eqb len 1)) CellValue.Error)))
+
+unfoldable pub cellFrom : CellColumns → ℕ → CellAt
+cellFrom c i =
+    record {
+      at = record { row = getD (c .rows) i 0; col = getD (c .cols) i 0 };
+      cell = record {
+        value = valueOf (getD (c .kinds) i 0) (getD (c .nums) i 0) (getD (c .ats) i 0) (getD (c .lens) i 0);
+        wraps = getD (c .wraps) i 0;
+      };
+    }
+
+-- the n cells from index i on
+unfoldable pub cellsFrom : CellColumns → ℕ → ℕ → List CellAt
+cellsFrom c i zero = []
+cellsFrom c i (suc n) = cellFrom c i ∷ cellsFrom c (suc i) n
+
+-- the n regions from index i on
+unfoldable pub regionsFrom : List ℕ → List ℕ → ℕ → ℕ → List CellCoordinate
+regionsFrom rows cols i zero = []
+regionsFrom rows cols i (suc n) = record { row = getD rows i 0; col = getD cols i 0 } ∷ regionsFrom rows cols (suc i) n
 
 -- ---- ranges
 
