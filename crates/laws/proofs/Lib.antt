@@ -1,7 +1,11 @@
+pub mod Sorting
+pub mod FloatOrder
+pub mod Values
+pub mod Order
 pub mod Spending
 pub mod Bound
 pub mod Lengths
+pub mod Answer
 pub mod Results
 pub mod DemandOne
 pub mod DemandThree
-pub mod Answer
