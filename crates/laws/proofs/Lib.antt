@@ -1,7 +1,14 @@
 pub mod Sorting
 pub mod FloatOrder
 pub mod Values
+pub mod Rank
 pub mod Order
+pub mod Split
+pub mod First
+pub mod Each
+pub mod Covered
+pub mod Apart
+pub mod Counted
 pub mod Spending
 pub mod Bound
 pub mod Lengths
