@@ -2,6 +2,7 @@ pub mod Sorting
 pub mod FloatOrder
 pub mod Values
 pub mod Rank
+pub mod Ratio
 pub mod Order
 pub mod Split
 pub mod First

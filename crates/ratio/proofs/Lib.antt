@@ -1,0 +1,2 @@
+pub mod I64
+pub mod Rounding
