@@ -1,2 +1,9 @@
 pub mod Computing
+pub mod Samples
 pub mod WorkedJob
+pub mod WorkedValues
+pub mod Refusals
+pub mod RefusalsByCharge
+pub mod Traps
+pub mod TrapsOfValues
+pub mod TrapsOfLeaves

@@ -11,3 +11,4 @@ pub mod Run
 pub mod Answer
 pub mod Job
 pub mod Columns
+pub mod WorkedValues
