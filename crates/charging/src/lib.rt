@@ -1,4 +1,6 @@
 // The evaluation counter, and the outcome of a charge to it.
+ghost use mathlib.Core.Path.{_≡_};
+ghost use Rattle.charging.specs.Charge.{Charge, one, charge};
 
 // How many evaluations have been charged. Port of `evaluations: &mut u64` (conditional.rs), held by value.
 pub struct Counter {
@@ -12,4 +14,36 @@ pub enum Charged {
     LimitExceeded(Counter, u64),
     // Refusal 8.
     CoordinateOverflow(Counter),
+}
+
+impl Counter {
+    // Port of bump_conditional_evaluations (conditional.rs): the raised counter is stored, then compared with the limit.
+    pub fn charge_one(self, limit: u64) -> Charged
+        ensures { λ r. ⌜ r ≡ charge limit (self .count) one ⌝ }
+    {
+        let count = self.count;
+        if count == 0xffff_ffff_ffff_ffff {
+            return Charged::CoordinateOverflow(Counter { count });
+        }
+        let raised = count + 1;
+        if limit < raised {
+            return Charged::LimitExceeded(Counter { count: raised }, raised);
+        }
+        Charged::Within(Counter { count: raised })
+    }
+
+    // Port of the area charge of conditional_value_keys (conditional.rs): stored only if accepted.
+    pub fn charge_area(self, area: u64, limit: u64) -> Charged
+        ensures { λ r. ⌜ r ≡ charge limit (self .count) (Charge.area area) ⌝ }
+    {
+        let count = self.count;
+        if 0xffff_ffff_ffff_ffff - count < area {
+            return Charged::CoordinateOverflow(self);
+        }
+        let actual = count + area;
+        if limit < actual {
+            return Charged::LimitExceeded(self, actual);
+        }
+        Charged::Within(Counter { count: actual })
+    }
 }

@@ -1,0 +1,6 @@
+pub mod Percent
+pub mod Parts
+pub mod Folds
+pub mod Signs
+pub mod Insertion
+pub mod Finite
