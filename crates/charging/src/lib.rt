@@ -1,6 +1,7 @@
 // The evaluation counter, and the outcome of a charge to it.
 ghost use mathlib.Core.Path.{_≡_};
-ghost use Rattle.charging.specs.Charge.{Charge, one, charge};
+ghost use lib.ListN.{replicate};
+ghost use Rattle.charging.specs.Charge.{Charge, one, charge, spend};
 
 // How many evaluations have been charged. Port of `evaluations: &mut u64` (conditional.rs), held by value.
 pub struct Counter {
@@ -45,5 +46,23 @@ impl Counter {
             return Charged::LimitExceeded(self, actual);
         }
         Charged::Within(Counter { count: actual })
+    }
+    // So many evaluations, one after the other. Up to the limit they are accepted at once.
+    pub fn charge_times(self, times: u64, limit: u64) -> Charged
+        ensures { λ r. ⌜ r ≡ spend limit (self .count) (replicate times one) ⌝ }
+    {
+        let count = self.count;
+        if times == 0 {
+            return Charged::Within(self);
+        }
+        if limit <= count {
+            return self.charge_one(limit);
+        }
+        if times <= limit - count {
+            return Charged::Within(Counter {
+                count: count + times,
+            });
+        }
+        Counter { count: limit }.charge_one(limit)
     }
 }
