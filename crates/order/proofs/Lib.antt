@@ -1,0 +1,3 @@
+mod Sinking
+mod Indices
+pub mod Laws
