@@ -1,0 +1,73 @@
+-- The name, the axes and the cell of a reference, by the cases of the definition. Assumes nothing.
+use Prim.Native.Nat.{ℕ, _+_, _-_, _<_, _≤_, _^_}
+use mathlib.Core.Path.{_≡_, refl, sym, ap, _∙_}
+use mathlib.Core.Bool.{Bool, true, false, cond, _&&_}
+use mathlib.Core.List.{List}
+use native.Mathlib.Omega.{arith}
+use lib.Dec.{leb}
+use borrow.Author.Tests.{leb-true}
+use Rattle.model.specs.declared.Axis.{Axis}
+use Rattle.model.specs.declared.A1Reference.{A1Reference}
+use Rattle.model.specs.declared.CellCoordinate.{CellCoordinate}
+use Rattle.model.specs.declared.Range.{Range}
+use Rattle.model.specs.declared.Referenced.{Referenced}
+use Rattle.model.specs.declared.SheetName.{SheetName}
+use Rattle.model.specs.declared.Span.{Span}
+use Rattle.model.specs.Sheet.{Sheet, maxRow, maxCol, textAt}
+use Rattle.model.specs.Readings.{ascii, sameBytes, sameLetters}
+use Rattle.model.specs.References.{offsetAxis, axis, sameName, namesSheet, joined, referenceCoordinate}
+
+-- ---- names
+
+module _ (a b : List ℕ) where
+  pub name-equal : sameBytes a b ≡ true → true ≡ sameName a b
+  unfolding sameName
+  name-equal e = rw e
+
+  pub name-ascii : sameBytes a b ≡ false → ascii a && ascii b ≡ true → sameLetters a b ≡ sameName a b
+  unfolding sameName
+  name-ascii e h = rw (e, h)
+
+  pub name-other : sameBytes a b ≡ false → ascii a && ascii b ≡ false → false ≡ sameName a b
+  unfolding sameName
+  name-other e h = rw (e, h)
+
+-- a sheet's own name in its own pool
+pub name-of : (s : Sheet) {pool : List ℕ} {sheet : Span} → s .pool ≡ pool → s .name ≡ sheet → (t : Span)
+    → sameName (textAt pool t) (textAt pool sheet) ≡ namesSheet s (SheetName.Named t)
+unfolding namesSheet
+name-of s {pool} {sheet} p n t =
+    ap (λ (bytes : List ℕ). sameName (textAt bytes t) (textAt bytes sheet)) (sym p)
+    ∙ ap (λ (name : Span). sameName (textAt (s .pool) t) (textAt (s .pool) name)) (sym n)
+
+-- ---- axes
+
+-- an accepted axis is at most the maximum
+offset-within : (t r o m v : ℕ) → offsetAxis t r o m ≡ Axis.At v → v ≤ m
+unfolding offsetAxis
+offset-within t r o m v h = go (leb o (t + r)) (leb (t + r - o) m) (leb-true (t + r - o) m) h
+  where
+    go : (a b : Bool) → (b ≡ true → t + r - o ≤ m) → cond (a && b) (Axis.At (t + r - o)) Axis.Outside ≡ Axis.At v → v ≤ m
+    go true true k e = let n : t + r - o ≡ v = cc in let l : t + r - o ≤ m = k refl in omega arith
+    go true false k e = absurd (let z : _≡_ {A = ℕ} 0 1 = cc in omega arith)
+    go false b k e = absurd (let z : _≡_ {A = ℕ} 0 1 = cc in omega arith)
+
+-- a column fits u16, checked or not
+pub axis-small : (absolute : Bool) (t r o : ℕ) → r < 2 ^ 16 → (v : ℕ) → axis absolute t r o maxCol ≡ Axis.At v → v < 2 ^ 16
+unfolding axis
+axis-small true t r o h v e = let n : r ≡ v = cc in omega arith
+axis-small false t r o h v e = let l : v ≤ maxCol = offset-within t r o maxCol v e in omega arith
+
+-- ---- the cell
+
+module _ (s : Sheet) (r : Range) (target : CellCoordinate) (f : A1Reference) where
+  pub coordinate-here : {row col : Axis} → namesSheet s (f .sheet) ≡ true
+      → row ≡ axis (f .«row_absolute») (target .row) (f .row) (r .top) maxRow
+      → col ≡ axis (f .«col_absolute») (target .col) (f .col) (r .left) maxCol
+      → joined row col ≡ referenceCoordinate s r target f
+  unfolding referenceCoordinate
+  coordinate-here {row} {col} h p q = rw h (ap (λ (a : Axis). joined a col) p ∙ ap (joined _) q)
+
+  pub coordinate-elsewhere : namesSheet s (f .sheet) ≡ false → Referenced.Nowhere ≡ referenceCoordinate s r target f
+  unfolding referenceCoordinate
+  coordinate-elsewhere h = rw h
