@@ -1,0 +1,21 @@
+-- `checks::out_of_bounds` meets its contract: in each arm it is known what was found. Assumes nothing.
+use borrow.Author.Needs.{needs}
+use Rattle.model.specs.Answer.{summary}
+use Rattle.checks.proofs.out_of_bounds.Statement.{statement}
+use Rattle.checks.proofs.out_of_bounds.Tie as tie
+
+enum-known-found : tie.Need-enum-known-found
+enum-known-found c = search needs
+
+enum-told : tie.Need-enum-told
+enum-told c = search needs
+
+returns : tie.Need-returns
+unfolding summary
+returns c = rw (c .before .found .given .1)
+
+returns-2 : tie.Need-returns-2
+returns-2 c = rw (c .enum-told .given .1)
+
+pub out-of-bounds-spec : {M : Type 1} → statement M
+out-of-bounds-spec = tie.close (tie.spec enum-known-found enum-told returns returns-2)
