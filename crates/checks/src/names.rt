@@ -1,14 +1,13 @@
 // Check 5: names and texts outside the pool.
 use super::Found;
+use comparison::uses_second;
 use model::CfRule;
 use model::ConditionalOperand;
-use model::DvOp;
 use model::Rules;
 use model::SheetName;
 use model::Span;
 ghost use mathlib.Core.Path.{_≡_};
 ghost use lib.ListN.{take};
-ghost use Rattle.model.specs.Comparison.{usesSecond};
 ghost use Rattle.model.specs.Job.{outside as isOutside, badName, badOperand, badKind, firstBadRule};
 ghost use Rattle.checks.specs.Checked.{found};
 
@@ -38,15 +37,6 @@ fn bad_operand(pool: &[u8], operand: ConditionalOperand) -> bool
             bad_name(pool, name)
         }
         ConditionalOperand::Unread => false,
-    }
-}
-
-fn uses_second(op: DvOp) -> bool
-    ensures { λ r. ⌜ r ≡ usesSecond op ⌝ }
-{
-    match op {
-        DvOp::Between | DvOp::NotBetween => true,
-        _ => false,
     }
 }
 

@@ -3,4 +3,3 @@ pub mod Parts
 pub mod Folds
 pub mod Signs
 pub mod Insertion
-pub mod Finite

@@ -1,0 +1,229 @@
+// What a rule comes to ahead of its regions: the arms of resolve_conditional_paints (conditional.rs), each up to its loop over the regions.
+// The definitions are model's Rule.antt. An inverted range defers before any of this.
+ghost use mathlib.Core.Path.{_≡_};
+ghost use Rattle.model.specs.declared.CfRule.{CfRule};
+ghost use Rattle.model.specs.References.{unread};
+ghost use Rattle.model.specs.Values.{sorted};
+ghost use Rattle.model.specs.Rule.{scale2, scale3, bar, rank, mean};
+ghost use Rattle.plans.specs.Plans.{takesValues, planOfValues, arranged, planOfOperands};
+use model::CfRule;
+use model::ConditionalComparison;
+use model::ConditionalOperand;
+use model::DvOp;
+use model::Plan;
+use model::Reading;
+use model::Rgb;
+use model::Test;
+use readings::number::is_finite;
+use values::Bounds;
+
+// ---- by operands
+
+// Whether parse_conditional_operand gives nothing. A literal that is not finite counts as unread.
+pub fn unread(operand: ConditionalOperand) -> bool
+    ensures { λ r. ⌜ r ≡ unread operand ⌝ }
+{
+    match operand {
+        ConditionalOperand::Literal(x) => !is_finite(x),
+        ConditionalOperand::Reference(_) => false,
+        ConditionalOperand::Unread => true,
+    }
+}
+
+// Port of the arm CfRule::CellIs up to its regions. The second operand is looked at only if the operator uses it.
+fn cell_is(op: DvOp, first: ConditionalOperand, second: ConditionalOperand, fill: Rgb) -> Plan
+    ensures { λ r. ⌜ r ≡ planOfOperands (CfRule.CellIs op first second fill) ⌝ }
+{
+    if unread(first) {
+        return Plan::Deferred;
+    }
+    if comparison::uses_second(op) && unread(second) {
+        return Plan::Deferred;
+    }
+    Plan::Tested(Test::CellIs {
+        op,
+        first,
+        second,
+        fill,
+    })
+}
+
+// Port of the arm CfRule::Expression up to its regions.
+fn expression(
+    op: ConditionalComparison,
+    left: ConditionalOperand,
+    right: ConditionalOperand,
+    fill: Rgb,
+) -> Plan
+    ensures { λ r. ⌜ r ≡ planOfOperands (CfRule.Expression op left right fill) ⌝ }
+{
+    if unread(left) {
+        return Plan::Deferred;
+    }
+    if unread(right) {
+        return Plan::Deferred;
+    }
+    Plan::Tested(Test::Expression {
+        op,
+        left,
+        right,
+        fill,
+    })
+}
+
+// Port of the two arms that parse operands. The other kinds are skipped.
+pub fn plan_of_operands(kind: CfRule) -> Plan
+    ensures { λ r. ⌜ r ≡ planOfOperands kind ⌝ }
+{
+    match kind {
+        CfRule::CellIs {
+            op,
+            first,
+            second,
+            fill,
+        } => cell_is(op, first, second, fill),
+        CfRule::ColorScale2 { .. } => Plan::Skipped,
+        CfRule::ColorScale3 { .. } => Plan::Skipped,
+        CfRule::DataBar { .. } => Plan::Skipped,
+        CfRule::TopBottom { .. } => Plan::Skipped,
+        CfRule::AboveAverage { .. } => Plan::Skipped,
+        CfRule::DuplicateValues { .. } => Plan::Skipped,
+        CfRule::Expression {
+            op,
+            left,
+            right,
+            fill,
+        } => expression(op, left, right, fill),
+    }
+}
+
+// ---- by values
+
+// Port of the arm CfRule::ColorScale2 up to its regions.
+fn color_scale2(min: Rgb, max: Rgb, values: &[f64]) -> Plan
+    ensures { λ r. ⌜ r ≡ scale2 min max (now (values .entry)) ⌝ }
+{
+    let Bounds::Of { least, greatest } = values::numeric_bounds(values) else {
+        return Plan::Skipped;
+    };
+    Plan::Tested(Test::ColorScale2 {
+        min,
+        max,
+        least,
+        greatest,
+    })
+}
+
+// Port of the arm CfRule::ColorScale3 up to its regions. The bounds are taken ahead of the sort, which puts -0 before an earlier +0.
+fn color_scale3(min: Rgb, mid: Rgb, max: Rgb, values: &mut [f64]) -> Plan
+    ensures { λ r. ⌜ r ≡ scale3 min mid max (now (values .entry)) ⌝ }
+    ensures { λ _. ⌜ now (values .exit) ≡ sorted (now (values .entry)) ⌝ }
+{
+    let bounds = values::numeric_bounds(values);
+    values::sort(values);
+    match bounds {
+        Bounds::Of { least, greatest } => {
+            let midpoint = values::midpoint(values);
+            Plan::Tested(Test::ColorScale3 {
+                min,
+                mid,
+                max,
+                least,
+                midpoint,
+                greatest,
+            })
+        }
+        Bounds::Nothing => Plan::Skipped,
+    }
+}
+
+// Port of the arm CfRule::DataBar up to its regions.
+fn data_bar(color: Rgb, values: &[f64]) -> Plan
+    ensures { λ r. ⌜ r ≡ bar color (now (values .entry)) ⌝ }
+{
+    let Bounds::Of { least, greatest } = values::numeric_bounds(values) else {
+        return Plan::Skipped;
+    };
+    Plan::Tested(Test::DataBar {
+        color,
+        least,
+        greatest,
+    })
+}
+
+// Port of the arm CfRule::TopBottom up to its regions.
+fn top_bottom(number: u32, bottom: bool, percent: bool, fill: Rgb, values: &mut [f64]) -> Plan
+    ensures { λ r. ⌜ r ≡ rank number bottom percent fill (now (values .entry)) ⌝ }
+    ensures { λ _. ⌜ now (values .exit) ≡ sorted (now (values .entry)) ⌝ }
+{
+    let n = values.len();
+    values::sort(values);
+    if n == 0 {
+        return Plan::Skipped;
+    }
+    if number == 0 {
+        return Plan::Skipped;
+    }
+    let threshold = values::threshold(bottom, values::selected(percent, number, n), values);
+    Plan::Tested(Test::TopBottom {
+        bottom,
+        threshold,
+        fill,
+    })
+}
+
+// Port of the arm CfRule::AboveAverage up to its regions. A sum that is not finite defers.
+fn above_average(below: bool, fill: Rgb, values: &[f64]) -> Plan
+    ensures { λ r. ⌜ r ≡ mean below fill (now (values .entry)) ⌝ }
+{
+    if values.len() == 0 {
+        return Plan::Skipped;
+    }
+    match values::average(values) {
+        Reading::Number(average) => Plan::Tested(Test::AboveAverage {
+            below,
+            average,
+            fill,
+        }),
+        Reading::Nothing => Plan::Deferred,
+    }
+}
+
+// Whether the arm of this kind calls conditional_numeric_values.
+pub fn takes_values(kind: CfRule) -> bool
+    ensures { λ r. ⌜ r ≡ takesValues kind ⌝ }
+{
+    match kind {
+        CfRule::CellIs { .. } => false,
+        CfRule::ColorScale2 { .. } => true,
+        CfRule::ColorScale3 { .. } => true,
+        CfRule::DataBar { .. } => true,
+        CfRule::TopBottom { .. } => true,
+        CfRule::AboveAverage { .. } => true,
+        CfRule::DuplicateValues { .. } => false,
+        CfRule::Expression { .. } => false,
+    }
+}
+
+// Port of the five arms that call conditional_numeric_values, whose values these are, in sheet order. A scale of three colours and a rank
+// leave them sorted. The other kinds are skipped.
+pub fn plan_of_values(kind: CfRule, values: &mut [f64]) -> Plan
+    ensures { λ r. ⌜ r ≡ planOfValues kind (now (values .entry)) ⌝ }
+    ensures { λ _. ⌜ now (values .exit) ≡ arranged kind (now (values .entry)) ⌝ }
+{
+    match kind {
+        CfRule::CellIs { .. } => Plan::Skipped,
+        CfRule::ColorScale2 { min, max } => color_scale2(min, max, values),
+        CfRule::ColorScale3 { min, mid, max } => color_scale3(min, mid, max, values),
+        CfRule::DataBar { color } => data_bar(color, values),
+        CfRule::TopBottom {
+            rank,
+            bottom,
+            percent,
+            fill,
+        } => top_bottom(rank, bottom, percent, fill, values),
+        CfRule::AboveAverage { below, fill } => above_average(below, fill, values),
+        CfRule::DuplicateValues { .. } => Plan::Skipped,
+        CfRule::Expression { .. } => Plan::Skipped,
+    }
+}
