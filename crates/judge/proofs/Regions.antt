@@ -1,0 +1,109 @@
+-- What a rule says of one region, by the values that the columns give: a sheet's regions have no part in it, nor has the count of the
+-- region's key where the test is not of duplicates. Assumes nothing.
+use Prim.Native.Nat.{ℕ}
+use mathlib.Core.Path.{_≡_, refl}
+use mathlib.Core.Bool.{Bool, true, false}
+use mathlib.Core.List.{List, [], _∷_}
+use types.Run.{OneOf, miss}
+use denote.Enum.Declared.{tagOf}
+use Rattle.model.proofs.Test.{the-type}
+use Rattle.model.specs.declared.CellCoordinate.{CellCoordinate}
+use Rattle.model.specs.declared.ConditionalOperand.{ConditionalOperand}
+use Rattle.model.specs.declared.Outcome.{Outcome}
+use Rattle.model.specs.declared.Range.{Range}
+use Rattle.model.specs.declared.Reading.{Reading}
+use Rattle.model.specs.declared.Referenced.{Referenced}
+use Rattle.model.specs.declared.Rule.{Rule}
+use Rattle.model.specs.declared.SheetName.{SheetName}
+use Rattle.model.specs.declared.Span.{Span}
+use Rattle.model.specs.declared.Test.{Test}
+use Rattle.model.specs.Sheet.{CellAt, inRange}
+use Rattle.model.specs.Readings.{numericAt, keyAt}
+use Rattle.model.specs.References.{namesSheet, referenceCoordinate, numericReferenced, resolved}
+use Rattle.model.specs.Rule.{cellsIn, keys, times, verdict}
+use Rattle.model.specs.Run.{RegionState, outcome}
+use Rattle.cells.specs.Columns.{sheetWith}
+use Rattle.ranges.specs.Turns.{sheetFrom}
+use Rattle.verdict.specs.Verdict.{firstOperand, secondOperand, verdictOn}
+use Rattle.verdict.proofs.Laws.{verdict-is}
+use Rattle.judge.specs.Judge.{foundFor}
+
+-- ---- the count of the region's key
+
+-- besides duplicates, in the order of `Test`
+abbrev withoutKeys : List ℕ
+withoutKeys = 0 ∷ 1 ∷ 2 ∷ 3 ∷ 4 ∷ 5 ∷ 7 ∷ []
+
+pub foundFor-none : (t : Test) → OneOf withoutKeys (tagOf the-type t) → (found : ℕ) → foundFor t found ≡ 0
+unfolding foundFor
+foundFor-none (Test.CellIs op first second fill) h found = refl
+foundFor-none (Test.ColorScale2 min max low high) h found = refl
+foundFor-none (Test.ColorScale3 min mid max low middle high) h found = refl
+foundFor-none (Test.DataBar color low high) h found = refl
+foundFor-none (Test.TopBottom bottom bound fill) h found = refl
+foundFor-none (Test.AboveAverage below bound fill) h found = refl
+foundFor-none (Test.DuplicateValues unique fill) h found = absurd (miss withoutKeys 6 tt h)
+foundFor-none (Test.Expression op left right fill) h found = refl
+
+verdictOn-foundFor : (t : Test) (imported : Bool) (value first second : Reading) (found : ℕ)
+    → verdictOn t imported value first second found ≡ verdictOn t imported value first second (foundFor t found)
+unfolding verdictOn foundFor
+verdictOn-foundFor (Test.CellIs op p q fill) imported value first second found = refl
+verdictOn-foundFor (Test.ColorScale2 min max low high) imported value first second found = refl
+verdictOn-foundFor (Test.ColorScale3 min mid max low middle high) imported value first second found = refl
+verdictOn-foundFor (Test.DataBar color low high) imported value first second found = refl
+verdictOn-foundFor (Test.TopBottom bottom bound fill) imported value first second found = refl
+verdictOn-foundFor (Test.AboveAverage below bound fill) imported value first second found = refl
+verdictOn-foundFor (Test.DuplicateValues unique fill) imported value first second found = refl
+verdictOn-foundFor (Test.Expression op p q fill) imported value first second found = refl
+
+module _ (cells : List CellAt) (pool : List ℕ) (name : Span) (regions : List CellCoordinate) where
+  -- ---- an operand
+
+  name-alike : (n : SheetName) → namesSheet (sheetFrom cells regions pool name) n ≡ namesSheet (sheetWith cells pool name) n
+  unfolding namesSheet
+  name-alike SheetName.This = refl
+  name-alike (SheetName.Named t) = refl
+
+  referenced-alike : (r : Referenced)
+      → numericReferenced (sheetFrom cells regions pool name) r ≡ numericReferenced (sheetWith cells pool name) r
+  unfolding numericReferenced
+  referenced-alike (Referenced.At at) = refl
+  referenced-alike Referenced.Nowhere = refl
+
+  resolved-alike : (range : Range) (at : CellCoordinate) (o : ConditionalOperand)
+      → resolved (sheetFrom cells regions pool name) range at o ≡ resolved (sheetWith cells pool name) range at o
+  unfolding resolved referenceCoordinate
+  resolved-alike range at (ConditionalOperand.Literal x) = refl
+  resolved-alike range at (ConditionalOperand.Reference f) = rw (name-alike (f .sheet), referenced-alike)
+  resolved-alike range at ConditionalOperand.Unread = refl
+
+  -- ---- a region
+
+  -- its verdict, by what the functions below it give
+  pub verdict-at : (r : Rule) (t : Test) (at : CellCoordinate)
+      → verdict (sheetFrom cells regions pool name) r at t
+      ≡ verdictOn t (r .imported) (numericAt cells at) (resolved (sheetWith cells pool name) (r .range) at (firstOperand t))
+      (resolved (sheetWith cells pool name) (r .range) at (secondOperand t))
+      (foundFor t (times pool (keyAt pool cells at) (keys pool (cellsIn (r .range) cells))))
+  verdict-at r t at =
+      rw (verdict-is (sheetFrom cells regions pool name) r at t)
+      (rw (resolved-alike (r .range) at (firstOperand t), resolved-alike (r .range) at (secondOperand t))
+      (verdictOn-foundFor t (r .imported) _ _ _ _))
+
+  module _ (r : Rule) (t : Test) (at : CellCoordinate) (state : RegionState) where
+    abbrev outcomeHere : Outcome
+    outcomeHere = outcome (sheetFrom cells regions pool name) r t at state
+
+    pub outcome-stopped : state .stopped ≡ true → outcomeHere ≡ Outcome.Stopped
+    unfolding outcome
+    outcome-stopped h = rw h
+
+    pub outcome-outside : state .stopped ≡ false → inRange (r .range) at ≡ false → outcomeHere ≡ Outcome.Passed
+    unfolding outcome
+    outcome-outside h e = rw (h, e)
+
+    pub outcome-within : state .stopped ≡ false → inRange (r .range) at ≡ true
+        → outcomeHere ≡ verdict (sheetFrom cells regions pool name) r at t
+    unfolding outcome
+    outcome-within h e = rw (h, e)
