@@ -1,0 +1,95 @@
+//! Takes the original's text from the file named by CONDITIONAL_RS, and stops unless it is the published one.
+
+#[allow(dead_code)]
+#[path = "src/sha256.rs"]
+mod sha256;
+
+#[path = "src/damages.rs"]
+mod damages;
+
+use std::fs;
+use std::path::{Path, PathBuf};
+
+const EXPECTED: &str = "9874a1452e97bff8389bba4e2b8694e18c128c4cc5ea929850ee349c06b680a0";
+
+fn main() {
+    println!("cargo::rerun-if-env-changed=CONDITIONAL_RS");
+    println!("cargo::rerun-if-env-changed=WAVENDIRU_LIB");
+    println!("cargo::rerun-if-changed=build.rs");
+    println!("cargo::rerun-if-changed=src/sha256.rs");
+    println!("cargo::rerun-if-changed=src/damages.rs");
+    println!("cargo::rerun-if-changed=probe.rs");
+    println!("cargo::rerun-if-changed=damages.txt");
+    if let Err(message) = build() {
+        println!("cargo::error={message}");
+    }
+}
+
+fn build() -> Result<(), String> {
+    let original = read_original()?;
+    let out = PathBuf::from(std::env::var("OUT_DIR").map_err(|e| e.to_string())?);
+    let probe = fs::read_to_string("probe.rs").map_err(|e| format!("probe.rs: {e}"))?;
+    let mut modules = String::new();
+    add_module(&mut modules, &out, "conditional", &original)?;
+    add_module(&mut modules, &out, "probed", &format!("{original}\n{probe}"))?;
+    let mut table = String::new();
+    if std::env::var_os("CARGO_FEATURE_TEETH").is_some() {
+        table = add_damaged(&mut modules, &out, &original)?;
+    }
+    modules.push_str(&format!("pub const DAMAGED: &[(&str, Resolve)] = &[{table}];\n"));
+    write(&out.join("original.rs"), &modules)?;
+    if std::env::var_os("CARGO_FEATURE_LIBRARY").is_some() {
+        link_library()?;
+    }
+    Ok(())
+}
+
+fn read_original() -> Result<String, String> {
+    let path = std::env::var("CONDITIONAL_RS")
+        .map_err(|_| "CONDITIONAL_RS is not set: it has to name the file conditional.rs (see README.md)".to_string())?;
+    println!("cargo::rerun-if-changed={path}");
+    let bytes = fs::read(&path).map_err(|e| format!("CONDITIONAL_RS={path} cannot be read: {e}"))?;
+    let found = sha256::hex_digest(&bytes);
+    if found != EXPECTED {
+        return Err(format!("CONDITIONAL_RS={path} is not the published conditional.rs: its SHA-256 is {found}, expected {EXPECTED}"));
+    }
+    String::from_utf8(bytes).map_err(|e| e.to_string())
+}
+
+/// Writes one module's text and declares it. Warnings of the original are not ours to mend.
+fn add_module(modules: &mut String, out: &Path, name: &str, text: &str) -> Result<(), String> {
+    let path = out.join(format!("{name}.rs"));
+    write(&path, text)?;
+    modules.push_str(&format!("#[allow(warnings)]\n#[path = {path:?}]\npub mod {name};\n"));
+    Ok(())
+}
+
+/// One module for each damage; gives the entries of their table.
+fn add_damaged(modules: &mut String, out: &Path, original: &str) -> Result<String, String> {
+    let list = fs::read_to_string("damages.txt").map_err(|e| format!("damages.txt: {e}"))?;
+    let mut table = String::new();
+    for (index, damage) in damages::parse(&list)?.iter().enumerate() {
+        let text = damages::apply(original, damage)?;
+        let module = format!("damaged_{index}");
+        add_module(modules, out, &module, &text)?;
+        table.push_str(&format!("({:?}, {module}::resolve_conditional_paints), ", damage.name));
+    }
+    Ok(table)
+}
+
+fn link_library() -> Result<(), String> {
+    let folder = std::env::var("WAVENDIRU_LIB")
+        .map_err(|_| "WAVENDIRU_LIB is not set: it has to name the folder that holds libexports.a".to_string())?;
+    let archive = Path::new(&folder).join("libexports.a");
+    println!("cargo::rerun-if-changed={}", archive.display());
+    if !archive.is_file() {
+        return Err(format!("WAVENDIRU_LIB={folder} holds no libexports.a (rt staticlib exports writes it)"));
+    }
+    println!("cargo::rustc-link-search=native={folder}");
+    println!("cargo::rustc-link-lib=static=exports");
+    Ok(())
+}
+
+fn write(path: &Path, text: &str) -> Result<(), String> {
+    fs::write(path, text).map_err(|e| format!("{} cannot be written: {e}", path.display()))
+}

@@ -1,0 +1,109 @@
+//! Compares the static library with the original, both in this process.
+
+use std::process::ExitCode;
+
+use oracle::drive::{compare, Progress, Run};
+use oracle::generate::numbers;
+use oracle::layout::probed::probe;
+use oracle::library::{wavendiru_channel, wavendiru_ratio, wavendiru_whole_job};
+use oracle::rng::Rng;
+use oracle::stored;
+use oracle::tour::Tour;
+
+const USAGE: &str = "usage: compare jobs SEED COUNT [FROM] | compare leaves SEED COUNT | compare list FILE";
+
+fn main() -> ExitCode {
+    let args: Vec<String> = std::env::args().skip(1).collect();
+    let args: Vec<&str> = args.iter().map(String::as_str).collect();
+    match run(&args) {
+        Ok(()) => ExitCode::SUCCESS,
+        Err(message) => {
+            eprintln!("compare: {message}");
+            ExitCode::FAILURE
+        }
+    }
+}
+
+fn run(args: &[&str]) -> Result<(), String> {
+    match args {
+        ["jobs", seed, count] => jobs(number(seed)?, 0, number(count)?),
+        ["jobs", seed, count, from] => jobs(number(seed)?, number(from)?, number(count)?),
+        ["leaves", seed, count] => leaves(number(seed)?, number(count)?),
+        ["list", file] => list(file),
+        _ => Err(USAGE.to_string()),
+    }
+}
+
+fn number(word: &str) -> Result<u64, String> {
+    word.parse().map_err(|_| format!("{word:?} is no number"))
+}
+
+fn jobs(seed: u64, from: u64, count: u64) -> Result<(), String> {
+    let to = from.checked_add(count).ok_or("there are no jobs past 2^64")?;
+    let mut tour = Tour::default();
+    let mut progress = Progress::new(count);
+    let found = Run::new(seed, from, to).first_mismatch(wavendiru_whole_job, &mut tour, &mut |done| progress.at(done));
+    if let Some(found) = found {
+        return Err(found.message(seed));
+    }
+    print!("{}", tour.table());
+    println!("\nseed {seed}, jobs {from} to {}: {count} compared, 0 mismatches, {:.0} s", to.saturating_sub(1), progress.seconds());
+    Ok(())
+}
+
+fn check_ratio(value: u64, minimum: u64, maximum: u64) -> Result<(), String> {
+    let [v, lo, hi] = [value, minimum, maximum].map(f64::from_bits);
+    let (ours, theirs) = (unsafe { wavendiru_ratio(v, lo, hi) }, probe::ratio(v, lo, hi));
+    if ours == theirs {
+        return Ok(());
+    }
+    Err(format!("ratio(n{value:016x}; n{minimum:016x}, n{maximum:016x}) is {ours}, the original has {theirs}"))
+}
+
+fn check_channel(start: u8, end: u8, ppm: u32) -> Result<(), String> {
+    let (ours, theirs) = (unsafe { wavendiru_channel(start, end, ppm) }, probe::channel(start, end, ppm));
+    if ours == theirs {
+        return Ok(());
+    }
+    Err(format!("channel({start}, {end}, {ppm}) is {ours}, the original has {theirs}"))
+}
+
+/// The two leaves that are exported: every channel at eight ratios, random channels, random ratios.
+fn leaves(seed: u64, count: u64) -> Result<(), String> {
+    for ppm in [0, 1, 499_999, 500_000, 500_001, 999_999, 1_000_000, u32::MAX] {
+        for ends in 0..=u16::MAX {
+            check_channel((ends >> 8) as u8, ends as u8, ppm)?;
+        }
+    }
+    let mut rng = Rng::new(seed, 0);
+    let mut progress = Progress::new(count);
+    for done in 1..=count {
+        let bits = [0; 3].map(|_| if rng.one_in(3) { numbers::special(&mut rng) } else { numbers::any(&mut rng) });
+        check_ratio(bits[0], bits[1], bits[2])?;
+        check_channel(rng.next() as u8, rng.next() as u8, (rng.next() >> rng.below(64)) as u32)?;
+        if done % 65_536 == 0 || done == count {
+            progress.at(done);
+        }
+    }
+    println!("seed {seed}: 524288 channels of every pair of ends, {count} random channels, {count} random ratios, 0 mismatches");
+    Ok(())
+}
+
+/// Replays a stored list through the library.
+fn list(file: &str) -> Result<(), String> {
+    let source = std::fs::read(file).map_err(|e| format!("{file}: {e}"))?;
+    let entries = stored::read(&source)?;
+    let mut rng = Rng::new(0, 0);
+    let mut wrong = Vec::new();
+    for (at, entry) in entries.iter().enumerate() {
+        if compare(wavendiru_whole_job, &entry.job, &entry.report, &mut rng, true).is_some() {
+            wrong.push(at);
+        }
+    }
+    println!("{} jobs, {} mismatches", entries.len(), wrong.len());
+    if wrong.is_empty() {
+        Ok(())
+    } else {
+        Err(format!("these differ: {wrong:?}"))
+    }
+}

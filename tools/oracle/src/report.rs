@@ -1,0 +1,58 @@
+//! The report (document 01, 'Job and report text').
+
+use std::fmt::Write;
+
+use crate::answer::{Answer, Mark, Outcome, Refusal};
+use crate::decide::decide;
+use crate::layout::{Resolve, ORIGINAL};
+use crate::read::read;
+
+const NAMES: &str = "number place count actual marks deferred simplified\n";
+const MARK_NAMES: &str = "region rule kind colour ppm cells\n";
+const BAR_NAMES: &str = "region barrule ppm\n";
+
+/// Full cells of a bar: 40 for 1,000,000 ppm, cut down.
+pub fn bar_cells(ppm: u32) -> u64 {
+    40 * u64::from(ppm) / 1_000_000
+}
+
+fn mark_line(mark: &Mark) -> String {
+    let [red, green, blue] = mark.colour;
+    let colour = if mark.kind == 2 { "-".to_string() } else { format!("{red:02x}{green:02x}{blue:02x}") };
+    let bar = if mark.kind >= 3 { format!("{} {}", mark.ppm, bar_cells(mark.ppm)) } else { "- -".to_string() };
+    format!("{} {} {} {colour} {bar}\n", mark.region, mark.rule, mark.kind)
+}
+
+fn answered(answer: &Answer) -> String {
+    let Answer { count, marks, bars, deferred, simplified } = answer;
+    let mut text = format!("{NAMES}0 0 {count} 0 {} {deferred} {simplified}\n{MARK_NAMES}", marks.len());
+    for mark in marks {
+        text.push_str(&mark_line(mark));
+    }
+    text.push_str(BAR_NAMES);
+    for bar in bars {
+        let _ = writeln!(text, "{} {} {}", bar.region, bar.rule, bar.ppm);
+    }
+    text
+}
+
+pub fn print(outcome: &Outcome) -> Vec<u8> {
+    let text = match outcome {
+        Ok(answer) => answered(answer),
+        Err(Refusal { number, place, count, actual }) => format!("{NAMES}{number} {place} {count} {actual} 0 0 0\n"),
+    };
+    text.into_bytes()
+}
+
+pub fn outcome_by(text: &[u8], resolve: Resolve) -> Outcome {
+    decide(&read(text)?, resolve)
+}
+
+pub fn report_by(text: &[u8], resolve: Resolve) -> Vec<u8> {
+    print(&outcome_by(text, resolve))
+}
+
+/// The report on a job text, as the original decides it.
+pub fn report(text: &[u8]) -> Vec<u8> {
+    report_by(text, ORIGINAL)
+}
