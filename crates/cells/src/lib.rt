@@ -59,7 +59,7 @@ fn same_coordinate(a: CellCoordinate, b: CellCoordinate) -> bool
 }
 
 // The index of the first cell at a coordinate, or the number of rows.
-fn find_cell(rows: &[u32], cols: &[u16], at: CellCoordinate) -> usize
+pub fn find_cell(rows: &[u32], cols: &[u16], at: CellCoordinate) -> usize
     ensures { λ r. ⌜ r ≡ placeOf (now (rows .entry)) (now (cols .entry)) at ⌝ }
 {
     let mut i = 0;

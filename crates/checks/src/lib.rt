@@ -1,7 +1,4 @@
 // The checks 1 to 6 over lent columns (document 01, 'Turned back').
-use cells::first_bad_cell;
-use cells::first_bad_region;
-use cells::first_fall;
 use lengths::lengths_differ;
 use lengths::space_short;
 use lengths::too_many;
@@ -10,6 +7,9 @@ use model::Rules;
 use model::Span;
 use names::first_bad_rule;
 use names::outside;
+use sheet::first_bad_cell;
+use sheet::first_bad_region;
+use sheet::first_fall;
 ghost use mathlib.Core.Path.{_≡_};
 ghost use mathlib.Core.Bool.{cond};
 ghost use mathlib.Core.List.{[], _∷_};
@@ -18,9 +18,9 @@ ghost use Rattle.model.specs.Answer.{refusal, summary};
 ghost use Rattle.model.specs.Job.{firstOf, outside as isOutside};
 ghost use Rattle.checks.specs.Checked.{turnedBack, refusedAt, cellColumns, jobOf, spaceOf, refusalOf};
 
-pub mod cells;
 pub mod lengths;
 pub mod names;
+pub mod sheet;
 
 // The first index at which a test holds.
 pub enum Found {

@@ -4,6 +4,7 @@ use Prim.Native.Nat.{ℕ}
 use mathlib.Core.Path.{_≡_, refl}
 use mathlib.Core.Bool.{Bool, true, false}
 use mathlib.Core.List.{List, [], _∷_}
+use lib.ListN.{replicate}
 use types.Run.{OneOf, miss}
 use denote.Enum.Declared.{tagOf}
 use Rattle.model.proofs.Test.{the-type}
@@ -17,7 +18,7 @@ use Rattle.model.specs.declared.Rule.{Rule}
 use Rattle.model.specs.declared.SheetName.{SheetName}
 use Rattle.model.specs.declared.Span.{Span}
 use Rattle.model.specs.declared.Test.{Test}
-use Rattle.model.specs.Sheet.{CellAt, inRange}
+use Rattle.model.specs.Sheet.{CellAt, CellColumns, inRange}
 use Rattle.model.specs.Readings.{numericAt, keyAt}
 use Rattle.model.specs.References.{namesSheet, referenceCoordinate, numericReferenced, resolved}
 use Rattle.model.specs.Rule.{cellsIn, keys, times, verdict}
@@ -26,7 +27,7 @@ use Rattle.cells.specs.Columns.{sheetWith}
 use Rattle.ranges.specs.Turns.{sheetFrom}
 use Rattle.verdict.specs.Verdict.{firstOperand, secondOperand, verdictOn}
 use Rattle.verdict.proofs.Laws.{verdict-is}
-use Rattle.judge.specs.Judge.{foundFor}
+use Rattle.judge.specs.Judge.{namesFor, foundFor}
 
 -- ---- the count of the region's key
 
@@ -44,6 +45,18 @@ foundFor-none (Test.TopBottom bottom bound fill) h found = refl
 foundFor-none (Test.AboveAverage below bound fill) h found = refl
 foundFor-none (Test.DuplicateValues unique fill) h found = absurd (miss withoutKeys 6 tt h)
 foundFor-none (Test.Expression op left right fill) h found = refl
+
+pub namesFor-none : (t : Test) → OneOf withoutKeys (tagOf the-type t) → (pool : List ℕ) (range : Range) (c : CellColumns)
+    → namesFor t pool range c ≡ replicate 1024 0
+unfolding namesFor
+namesFor-none (Test.CellIs op first second fill) h pool range c = refl
+namesFor-none (Test.ColorScale2 min max low high) h pool range c = refl
+namesFor-none (Test.ColorScale3 min mid max low middle high) h pool range c = refl
+namesFor-none (Test.DataBar color low high) h pool range c = refl
+namesFor-none (Test.TopBottom bottom bound fill) h pool range c = refl
+namesFor-none (Test.AboveAverage below bound fill) h pool range c = refl
+namesFor-none (Test.DuplicateValues unique fill) h pool range c = absurd (miss withoutKeys 6 tt h)
+namesFor-none (Test.Expression op left right fill) h pool range c = refl
 
 verdictOn-foundFor : (t : Test) (imported : Bool) (value first second : Reading) (found : ℕ)
     → verdictOn t imported value first second found ≡ verdictOn t imported value first second (foundFor t found)

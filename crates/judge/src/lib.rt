@@ -1,4 +1,5 @@
 // What a rule says of each region: the first of the two phases of a rule. No mark is written here.
+use cells::find_cell;
 use cells::key_at;
 use cells::numeric_at;
 use cells::resolve_conditional_operand;
@@ -14,14 +15,16 @@ use verdict::first_operand;
 use verdict::second_operand;
 ghost use Prim.Native.Nat.{min};
 ghost use mathlib.Core.Path.{_≡_};
+ghost use mathlib.Core.Bool.{true, cond};
 ghost use mathlib.Core.List.{List};
 ghost use lib.ListN.{length, getD, replicate};
+ghost use Rattle.model.specs.Sheet.{inRange};
 ghost use Rattle.model.specs.Readings.{keyAt};
 ghost use Rattle.model.specs.Rule.{cellsIn, keys, times, verdict};
 ghost use Rattle.model.specs.Run.{RegionState, outcome};
 ghost use Rattle.cells.specs.Columns.{columns, cellsOf, coordinateAt, sheetWith};
 ghost use Rattle.ranges.specs.Turns.{sheetFrom};
-ghost use Rattle.judge.specs.Judge.{flagged, outcomesFrom, said, judgedAs, judgedOf, foundFor, operandsAt};
+ghost use Rattle.judge.specs.Judge.{flagged, outcomesFrom, said, judgedAs, judgedOf, namesFor, foundFor, operandsAt};
 
 // What the two operands of a test read as.
 struct Operands {
@@ -41,7 +44,31 @@ pub struct Judged {
     pub unresolved: bool,
 }
 
-// How many cells in range have the key of the region's cell. Only a duplicate rule pays for it.
+// The names of the keys in range. Only a duplicate rule pays for them.
+fn names_for(
+    test: Test,
+    range: Range,
+    rows: &[u32],
+    cols: &[u16],
+    kinds: &[u8],
+    wraps: &[u8],
+    nums: &[u64],
+    ats: &[u32],
+    lens: &[u32],
+    pool: &[u8],
+) -> [u64; 1024]
+    ensures { λ r. ⌜ r ≡ namesFor test (now (pool .entry)) range (columns (now (rows .entry)) (now (cols .entry)) (now (kinds .entry))
+        (now (wraps .entry)) (now (nums .entry)) (now (ats .entry)) (now (lens .entry))) ⌝ }
+{
+    match test {
+        Test::DuplicateValues { .. } => {
+            keys::names(range, rows, cols, kinds, wraps, nums, ats, lens, pool)
+        }
+        _ => [0; 1024],
+    }
+}
+
+// How many cells in range have the key of the cell of a region in range, by the names of the keys; of more than 1,024 cells by the keys.
 fn found_in(
     test: Test,
     range: Range,
@@ -54,7 +81,11 @@ fn found_in(
     ats: &[u32],
     lens: &[u32],
     pool: &[u8],
+    names: &[u64],
 ) -> u64
+    requires { ⌜ inRange range at ≡ true ⌝ }
+    requires { ⌜ now names ≡ namesFor test (now pool) range (columns (now rows) (now cols) (now kinds) (now wraps) (now nums)
+        (now ats) (now lens)) ⌝ }
     ensures { λ r. ⌜ r ≡ foundFor test (times (now (pool .entry)) (keyAt (now (pool .entry)) (cellsOf (columns (now (rows .entry))
         (now (cols .entry)) (now (kinds .entry)) (now (wraps .entry)) (now (nums .entry)) (now (ats .entry)) (now (lens .entry)))) at)
         (keys (now (pool .entry)) (cellsIn range (cellsOf (columns (now (rows .entry)) (now (cols .entry)) (now (kinds .entry))
@@ -62,6 +93,9 @@ fn found_in(
 {
     match test {
         Test::DuplicateValues { .. } => {
+            if rows.len() <= 1024 {
+                return keys::found_at(names, find_cell(rows, cols, at));
+            }
             let key = key_at(rows, cols, kinds, wraps, nums, ats, lens, pool, at);
             ranges::times(key, range, rows, cols, kinds, wraps, nums, ats, lens, pool)
         }
@@ -133,8 +167,12 @@ fn verdict_at(
     ats: &[u32],
     lens: &[u32],
     pool: &[u8],
+    names: &[u64],
     sheet: Span,
 ) -> Outcome
+    requires { ⌜ inRange (rule .range) at ≡ true ⌝ }
+    requires { ⌜ now names ≡ namesFor test (now pool) (rule .range) (columns (now rows) (now cols) (now kinds) (now wraps) (now nums)
+        (now ats) (now lens)) ⌝ }
     ensures { λ r. ⌜ ((regions : List CellCoordinate) → r ≡ verdict (sheetFrom (cellsOf (columns (now (rows .entry)) (now (cols .entry))
         (now (kinds .entry)) (now (wraps .entry)) (now (nums .entry)) (now (ats .entry)) (now (lens .entry)))) regions
         (now (pool .entry)) sheet) rule at test) ⌝ }
@@ -168,6 +206,7 @@ fn verdict_at(
         ats,
         lens,
         pool,
+        names,
     );
     let value = numeric_at(rows, cols, kinds, wraps, nums, ats, lens, at);
     verdict::verdict(test, rule.imported, value, first, second, found)
@@ -187,8 +226,11 @@ fn region_outcome(
     ats: &[u32],
     lens: &[u32],
     pool: &[u8],
+    names: &[u64],
     sheet: Span,
 ) -> Outcome
+    requires { ⌜ now names ≡ namesFor test (now pool) (rule .range) (columns (now rows) (now cols) (now kinds) (now wraps) (now nums)
+        (now ats) (now lens)) ⌝ }
     ensures { λ r. ⌜ ((regions : List CellCoordinate) (state : RegionState) → state .stopped ≡ stopped → r ≡ outcome (sheetFrom
         (cellsOf (columns (now (rows .entry)) (now (cols .entry)) (now (kinds .entry)) (now (wraps .entry))
         (now (nums .entry)) (now (ats .entry)) (now (lens .entry)))) regions (now (pool .entry)) sheet) rule test at state) ⌝ }
@@ -212,6 +254,7 @@ fn region_outcome(
         ats,
         lens,
         pool,
+        names,
         sheet,
     )
 }
@@ -231,9 +274,12 @@ fn outcome_at(
     region_rows: &[u32],
     region_cols: &[u16],
     pool: &[u8],
+    names: &[u64],
     sheet: Span,
     i: usize,
 ) -> Outcome
+    requires { ⌜ now names ≡ namesFor test (now pool) (rule .range) (columns (now rows) (now cols) (now kinds) (now wraps) (now nums)
+        (now ats) (now lens)) ⌝ }
     ensures { λ r. ⌜ ((regions : List CellCoordinate) → r ≡ outcome (sheetFrom (cellsOf (columns (now (rows .entry)) (now (cols .entry))
         (now (kinds .entry)) (now (wraps .entry)) (now (nums .entry)) (now (ats .entry)) (now (lens .entry)))) regions
         (now (pool .entry)) sheet) rule test (coordinateAt (now («region_rows» .entry)) (now («region_cols» .entry)) i)
@@ -257,6 +303,7 @@ fn outcome_at(
         ats,
         lens,
         pool,
+        names,
         sheet,
     )
 }
@@ -281,9 +328,20 @@ fn nothing_said() -> [Said; 1024]
     [none; 1024]
 }
 
-fn judged_as(outcomes: [Said; 1024], asked: u64, unresolved: bool) -> Judged
-    ensures { λ r. ⌜ r ≡ judgedAs outcomes asked unresolved ⌝ }
+// The outcomes, none of them where the rule is given up.
+fn said_unless(unresolved: bool, outcomes: [Said; 1024]) -> [Said; 1024]
+    ensures { λ r. ⌜ r ≡ cond unresolved (replicate 1024 (said Outcome.Stopped)) outcomes ⌝ }
 {
+    if unresolved {
+        return nothing_said();
+    }
+    outcomes
+}
+
+fn judged_as(outcomes: [Said; 1024], asked: u64, unresolved: bool) -> Judged
+    ensures { λ r. ⌜ r ≡ judgedAs (cond unresolved (replicate 1024 (said Outcome.Stopped)) outcomes) asked unresolved ⌝ }
+{
+    let outcomes = said_unless(unresolved, outcomes);
     Judged {
         outcomes,
         asked,
@@ -292,7 +350,7 @@ fn judged_as(outcomes: [Said; 1024], asked: u64, unresolved: bool) -> Judged
 }
 
 // Port of the loops over the regions in resolve_conditional_paints (conditional.rs), without their charges and marks.
-pub fn judge(
+fn judge_regions(
     rule: Rule,
     test: Test,
     stopped: &[u8],
@@ -306,8 +364,11 @@ pub fn judge(
     region_rows: &[u32],
     region_cols: &[u16],
     pool: &[u8],
+    names: &[u64],
     sheet: Span,
 ) -> Judged
+    requires { ⌜ now names ≡ namesFor test (now pool) (rule .range) (columns (now rows) (now cols) (now kinds) (now wraps) (now nums)
+        (now ats) (now lens)) ⌝ }
     ensures { λ r. ⌜ ((regions : List CellCoordinate) → r ≡ judgedOf (outcomesFrom (sheetFrom (cellsOf (columns (now (rows .entry))
         (now (cols .entry)) (now (kinds .entry)) (now (wraps .entry)) (now (nums .entry)) (now (ats .entry)) (now (lens .entry)))) regions
         (now (pool .entry)) sheet) rule test (now («region_rows» .entry)) (now («region_cols» .entry)) (now (stopped .entry)) 0
@@ -332,6 +393,7 @@ pub fn judge(
             region_rows,
             region_cols,
             pool,
+            names,
             sheet,
             i,
         );
@@ -340,7 +402,7 @@ pub fn judge(
                 i += 1;
                 continue;
             }
-            Outcome::Unresolved => return judged_as(nothing_said(), asked + 1, true),
+            Outcome::Unresolved => return judged_as(outcomes, asked + 1, true),
             _ => {
                 outcomes[i] = Said { outcome };
                 asked += 1;
@@ -350,4 +412,47 @@ pub fn judge(
         }
     }
     judged_as(outcomes, asked, false)
+}
+
+// What a rule says of each region, with the names of the keys worked out once.
+pub fn judge(
+    rule: Rule,
+    test: Test,
+    stopped: &[u8],
+    rows: &[u32],
+    cols: &[u16],
+    kinds: &[u8],
+    wraps: &[u8],
+    nums: &[u64],
+    ats: &[u32],
+    lens: &[u32],
+    region_rows: &[u32],
+    region_cols: &[u16],
+    pool: &[u8],
+    sheet: Span,
+) -> Judged
+    ensures { λ r. ⌜ ((regions : List CellCoordinate) → r ≡ judgedOf (outcomesFrom (sheetFrom (cellsOf (columns (now (rows .entry))
+        (now (cols .entry)) (now (kinds .entry)) (now (wraps .entry)) (now (nums .entry)) (now (ats .entry)) (now (lens .entry)))) regions
+        (now (pool .entry)) sheet) rule test (now («region_rows» .entry)) (now («region_cols» .entry)) (now (stopped .entry)) 0
+        (min (length (now («region_rows» .entry))) 1024))) ⌝ }
+{
+    let range = rule.range;
+    let names = names_for(test, range, rows, cols, kinds, wraps, nums, ats, lens, pool);
+    judge_regions(
+        rule,
+        test,
+        stopped,
+        rows,
+        cols,
+        kinds,
+        wraps,
+        nums,
+        ats,
+        lens,
+        region_rows,
+        region_cols,
+        pool,
+        &names,
+        sheet,
+    )
 }

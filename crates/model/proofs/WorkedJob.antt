@@ -14,7 +14,7 @@ use Rattle.model.specs.Columns.{columnsOf}
 use Rattle.model.proofs.Computing.{jobs}
 use Rattle.model.proofs.Samples.{samples, span, down, regions, rows, rule, prior, stopping, green, above, allOf, jobIn, lengths}
 
-abbrev job : Job
+abbrev pub job : Job
 job =
     jobIn (0x53 ∷ []) (span 0 1) (down (1 ∷ 2 ∷ 3 ∷ [])) (regions 3)
     (allOf (rule (rows 3) (CfRule.DataBar green) ∷ stopping (prior 0 (rule (rows 3) above)) ∷ [])) 0

@@ -110,7 +110,7 @@ module _ {range : Range} {c : CellColumns} {first : List Float} where
 abbrev timesOf : List ℕ → Key → List CellAt → ℕ
 timesOf pool key cells = times pool key (keys pool cells)
 
-no-key-differs : (pool : List ℕ) (key : Key) → sameKey pool key Key.Nothing ≡ false
+pub no-key-differs : (pool : List ℕ) (key : Key) → sameKey pool key Key.Nothing ≡ false
 unfolding sameKey
 no-key-differs pool (Key.Number a) = refl
 no-key-differs pool (Key.Text t) = refl

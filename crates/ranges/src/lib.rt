@@ -244,7 +244,7 @@ pub fn covered(
 }
 
 // The key of the cell at an index, and none where it is out of range.
-fn key_in(
+pub fn key_in(
     range: Range,
     rows: &[u32],
     cols: &[u16],

@@ -1,7 +1,7 @@
 -- The name, the axes and the cell of a reference, by the cases of the definition. Assumes nothing.
 use Prim.Native.Nat.{ℕ, _+_, _-_, _<_, _≤_, _^_}
 use mathlib.Core.Path.{_≡_, refl, sym, ap, _∙_}
-use mathlib.Core.Bool.{Bool, true, false, cond, _&&_}
+use mathlib.Core.Bool.{Bool, true, false, cond, _&&_, and-true, and-false}
 use mathlib.Core.List.{List}
 use native.Mathlib.Omega.{arith}
 use lib.Dec.{leb}
@@ -24,13 +24,13 @@ module _ (a b : List ℕ) where
   unfolding sameName
   name-equal e = rw e
 
-  pub name-ascii : sameBytes a b ≡ false → ascii a && ascii b ≡ true → sameLetters a b ≡ sameName a b
+  pub name-other : sameBytes a b ≡ false → sameLetters a b ≡ false → false ≡ sameName a b
   unfolding sameName
-  name-ascii e h = rw (e, h)
+  name-other e h = rw (e, h, and-false)
 
-  pub name-other : sameBytes a b ≡ false → ascii a && ascii b ≡ false → false ≡ sameName a b
+  pub name-letters : sameBytes a b ≡ false → sameLetters a b ≡ true → ascii a && ascii b ≡ sameName a b
   unfolding sameName
-  name-other e h = rw (e, h)
+  name-letters e h = rw (e, h, and-true)
 
 -- a sheet's own name in its own pool
 pub name-of : (s : Sheet) {pool : List ℕ} {sheet : Span} → s .pool ≡ pool → s .name ≡ sheet → (t : Span)

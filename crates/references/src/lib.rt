@@ -43,14 +43,17 @@ pub fn axis(absolute: bool, target: u32, reference: u32, origin: u32, maximum: u
     offset_a1_axis(target, reference, origin, maximum)
 }
 
-// Equal bytes, or both ASCII and equal without regard to case.
+// Equal bytes, or both ASCII and equal without regard to case. Letters are compared first, so that a name of another length costs nothing.
 pub fn same_name(a: &[u8], b: &[u8]) -> bool
     ensures { λ r. ⌜ r ≡ sameName (now (a .entry)) (now (b .entry)) ⌝ }
 {
     if same_bytes(a, b) {
         return true;
     }
-    is_ascii(a) && is_ascii(b) && same_letters(a, b)
+    if !same_letters(a, b) {
+        return false;
+    }
+    is_ascii(a) && is_ascii(b)
 }
 
 // Whether a reference's name is this sheet's.

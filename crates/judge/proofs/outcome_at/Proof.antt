@@ -14,7 +14,9 @@ at-u8-requires : tie.Need-at-u8-requires
 at-u8-requires c κs = search needs
 
 region-outcome-requires : tie.Need-region-outcome-requires
-region-outcome-requires c κs = search needs
+region-outcome-requires c κs =
+    let begun = c .before .before .before .before .before in
+    begun .before .before .before .before .before .before .before .before .before .before .pre
 
 returns : tie.Need-returns
 returns c regions =

@@ -19,7 +19,9 @@ returns-2 c regions state h =
     (sym (c .before .in-range .ensures) ∙ not-true _ (c .if2 .taken)))
 
 verdict-at-requires : tie.Need-verdict-at-requires
-verdict-at-requires c κs = search needs
+verdict-at-requires c κs =
+    let begun = c .before .before .before .before .before .before .before .before in
+    (sym (c .before .in-range .ensures) ∙ not-false _ (c .if2 .left), begun .before .before .before .before .before .pre)
 
 returns-3 : tie.Need-returns-3
 returns-3 c regions state h =

@@ -9,7 +9,7 @@ operands-at-requires : tie.Need-operands-at-requires
 operands-at-requires c κs = search needs
 
 found-in-requires : tie.Need-found-in-requires
-found-in-requires c κs = search needs
+found-in-requires c κs = c .before .before .before .before .before .before .before .before .before .before .before .pre
 
 numeric-at-requires : tie.Need-numeric-at-requires
 numeric-at-requires c κs = search needs

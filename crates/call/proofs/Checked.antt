@@ -1,0 +1,55 @@
+-- What a job has whose checks pass: few regions, room for bars and values; and the result of a job by its checks. Assumes nothing.
+use Prim.Native.Nat.{ℕ, _≤_}
+use native.Mathlib.Omega.{arith}
+use mathlib.Core.Path.{_≡_, refl, sym, ap, _∙_}
+use mathlib.Core.Bool.{Bool, true, false, cond, _||_}
+use mathlib.Core.List.{List, [], _∷_}
+use mathlib.Core.Option.{Option, none, some}
+use lib.Dec.{ltb}
+use lib.ListN.{length}
+use borrow.Author.Tests.{ltb-false}
+use Rattle.model.specs.Answer.{Summary, limited}
+use Rattle.model.specs.Job.{Job, Lengths, cellCount, regionCount, tooMany, refuseIf, firstOf, malformed, spaceShort}
+use Rattle.checks.specs.Checked.{refusalOf}
+use Rattle.laws.proofs.DemandOne.{Spaces, roomy-spaces}
+
+first-none : (a b : Option Summary) → firstOf (a ∷ b ∷ []) ≡ none → (a ≡ none) × (b ≡ none)
+unfolding firstOf
+first-none none none h = (refl, refl)
+first-none none (some s) h = absurd (let no : _≡_ {A = ℕ} 0 1 = cc in omega arith)
+first-none (some s) b h = absurd (let no : _≡_ {A = ℕ} 0 1 = cc in omega arith)
+
+-- the second of several is not met
+second-none : (a : Option Summary) (met : Bool) (s : Summary) (cs : List (Option Summary)) → firstOf (a ∷ cond met (some s) none ∷ cs)
+    ≡ none
+    → met ≡ false
+unfolding firstOf
+second-none none false s cs h = refl
+second-none none true s cs h = absurd (let no : _≡_ {A = ℕ} 0 1 = cc in omega arith)
+second-none (some x) met s cs h = absurd (let no : _≡_ {A = ℕ} 0 1 = cc in omega arith)
+
+none-second : (a b c d : Bool) → a || b || c || d ≡ false → b ≡ false
+none-second false false c d h = refl
+none-second false true c d h = h
+none-second true b c d h = absurd (let no : _≡_ {A = ℕ} 0 1 = cc in omega arith)
+
+module _ (j : Job) where
+  few-regions : malformed j ≡ none → regionCount j ≤ 1024
+  unfolding malformed refuseIf tooMany
+  few-regions h =
+      ltb-false 1024 (regionCount j)
+      (none-second (ltb 1024 (cellCount j)) _ (ltb 64 (j .rules .number)) (ltb 65_536 (length (j .pool))) (second-none _ (tooMany j) _ _ h))
+
+  -- what the checks leave
+  pub record Fine (l : Lengths) : Type 0 where
+    pub regions : regionCount j ≤ 1024
+    pub barRules : regionCount j ≤ l .barRules
+    pub barPpms : regionCount j ≤ l .barPpms
+    pub scratch : cellCount j ≤ l .scratch
+
+  pub checked-fine : (l : Lengths) → refusalOf j l ≡ none → Fine l
+  unfolding refusalOf
+  checked-fine l h =
+      let both = first-none (malformed j) (spaceShort j l) h in
+      let s = roomy-spaces j l (both .1) in
+      record { regions = few-regions (both .0); barRules = s .barRules; barPpms = s .barPpms; scratch = s .scratch }

@@ -1,0 +1,201 @@
+-- `call::resolve_conditional_paints` meets its contract: the columns are cleared; a check that is met is the answer; else the rules are run
+-- from the cleared columns, and settled. Nothing is asked where it calls. Assumes nothing.
+use mathlib.Core.Path.{refl, _∙_}
+use denote.Ref.{now}
+use borrow.Author.Needs.{needs}
+use Rattle.laws.specs.Demands.{lengthsOf}
+use Rattle.checks.specs.Checked.{cellColumns, jobOf}
+use Rattle.settling.specs.Settling.{lent}
+use Rattle.call.proofs.Checked.{checked-fine}
+use Rattle.call.proofs.Answering.{
+  lent-zeros,
+  lent-same,
+  marks-same,
+  bars-same,
+  space-as,
+  answers-refused,
+  fine,
+  ended-as,
+  answers-settled,
+}
+use Rattle.call.proofs.resolve_conditional_paints.Statement.{statement}
+use Rattle.call.proofs.resolve_conditional_paints.Tie as tie
+
+enum-known-checked : tie.Need-enum-known-checked
+enum-known-checked c = search needs
+
+same-length : tie.Need-same-length
+same-length c = c .before .before .before .before .before .before .before .before .before .before .before .before .before .before
+    .before .before .before .before .before .before .before .before .clear-columns .kept .0
+
+same-length-2 : tie.Need-same-length-2
+same-length-2 c = c .before .before .before .before .before .before .before .before .before .before .before .before .before .before
+    .before .before .before .before .before .before .before .before .clear-columns .kept .1 .0
+
+same-length-3 : tie.Need-same-length-3
+same-length-3 c = c .before .before .before .before .before .before .before .before .before .before .before .before .before .before
+    .before .before .before .before .before .before .before .before .clear-columns .kept .1 .1 .0
+
+same-length-4 : tie.Need-same-length-4
+same-length-4 c = c .before .before .before .before .before .before .before .before .before .before .before .before .before .before
+    .before .before .before .before .before .before .before .before .clear-columns .kept .1 .1 .1 .0
+
+same-length-5 : tie.Need-same-length-5
+same-length-5 c = c .before .before .before .before .before .before .before .before .before .before .before .before .before .before
+    .before .before .before .before .before .before .before .before .clear-columns .kept .1 .1 .1 .1 .0
+
+same-length-6 : tie.Need-same-length-6
+same-length-6 c = c .before .before .before .before .before .before .before .before .before .before .before .before .before .before
+    .before .before .before .before .before .before .before .before .clear-columns .kept .1 .1 .1 .1 .1 .0
+
+same-length-7 : tie.Need-same-length-7
+same-length-7 c = c .before .before .before .before .before .before .before .before .before .before .before .before .before .before
+    .before .before .before .before .before .before .before .before .clear-columns .kept .1 .1 .1 .1 .1 .1 .0
+
+same-length-8 : tie.Need-same-length-8
+same-length-8 c = c .before .before .clear-f64 .kept .0
+
+returns : tie.Need-returns
+returns c =
+    let checked = c .before .before .before .before .before .before .before in
+    let cleared = checked .before .before .before .before .before .before .before .before .before .before .before .before .before
+    .before .before in
+    let a = cleared .before .before .before .before .before .before .before .before .before .before .before .before .before .before
+    .before .before .before .before .before .before .before .before .before .before .before .before .args in
+    let j = jobOf (cellColumns (now (a .rows)) (now (a .cols)) (now (a .kinds)) (now (a .wraps)) (now (a .nums)) (now (a .ats)) (now
+    (a .lens)))
+    (now (a .region-rows)) (now (a .region-cols)) (now (a .pool)) (a .name) (a .rules) (a .start) in
+    let l = lengthsOf (lent (now (a .regions)) (now (a .ruleids)) (now (a .markkinds)) (now (a .colours)) (now (a .ppms))
+    (now (a .barrules)) (now (a .barppms)) (now (a .scratch))) in
+    let k = cleared .clear-columns .kept in
+    let e = cleared .clear-columns .ensures in
+    let all = lent-zeros l (e .0) (e .1 .0) (e .1 .1 .0) (e .1 .1 .1 .0) (e .1 .1 .1 .1 .0) (e .1 .1 .1 .1 .1 .0) (e .1 .1 .1 .1 .1 .1)
+    (c .before .before .clear-f64 .ensures) in
+    let done = answers-refused j (a .limit) l _ _ _ _ (k .1 .1 .1 .1 .1 .0) (k .1 .1 .1 .1 .1 .1 .0) refl (checked .check .ensures) _ _
+    (c .before .before .before .before .before .checked .given .1) all in
+    (done .answer, done .columns)
+
+enum-told : tie.Need-enum-told
+enum-told c = search needs
+
+same-length-9 : tie.Need-same-length-9
+same-length-9 c =
+    let last = c .before .before .before .before .before .before .before .before .before .before .before .before .before .before in
+    let ran = last .before .before .before .before .before .before .before .before .before .before .before .before .before .before
+    .before .before .before .before .before .before .before .before .before .before in
+    last .settle-columns .kept .1 .0 ∙ ran .run .kept .1 .1 .1 .1 .1 .1 .1 .1 .1 .1 .1 .1 .1 .1 .0
+    ∙ ran .before .before .before .before .before .before .before .before .before .before .before .before .before .before .before
+    .before .before .before .before .before .before .before .before .before .before .before .clear-columns .kept .0
+
+same-length-10 : tie.Need-same-length-10
+same-length-10 c =
+    let last = c .before .before .before .before .before .before .before .before .before .before .before .before .before .before in
+    let ran = last .before .before .before .before .before .before .before .before .before .before .before .before .before .before
+    .before .before .before .before .before .before .before .before .before .before in
+    last .settle-columns .kept .1 .1 .0 ∙ ran .run .kept .1 .1 .1 .1 .1 .1 .1 .1 .1 .1 .1 .1 .1 .1 .1 .0
+    ∙ ran .before .before .before .before .before .before .before .before .before .before .before .before .before .before .before
+    .before .before .before .before .before .before .before .before .before .before .before .clear-columns .kept .1 .0
+
+same-length-11 : tie.Need-same-length-11
+same-length-11 c =
+    let last = c .before .before .before .before .before .before .before .before .before .before .before .before .before .before in
+    let ran = last .before .before .before .before .before .before .before .before .before .before .before .before .before .before
+    .before .before .before .before .before .before .before .before .before .before in
+    last .settle-columns .kept .1 .1 .1 .0 ∙ ran .run .kept .1 .1 .1 .1 .1 .1 .1 .1 .1 .1 .1 .1 .1 .1 .1 .1 .0
+    ∙ ran .before .before .before .before .before .before .before .before .before .before .before .before .before .before .before
+    .before .before .before .before .before .before .before .before .before .before .before .clear-columns .kept .1 .1 .0
+
+same-length-12 : tie.Need-same-length-12
+same-length-12 c =
+    let last = c .before .before .before .before .before .before .before .before .before .before .before .before .before .before in
+    let ran = last .before .before .before .before .before .before .before .before .before .before .before .before .before .before
+    .before .before .before .before .before .before .before .before .before .before in
+    last .settle-columns .kept .1 .1 .1 .1 .0 ∙ ran .run .kept .1 .1 .1 .1 .1 .1 .1 .1 .1 .1 .1 .1 .1 .1 .1 .1 .1 .0
+    ∙ ran .before .before .before .before .before .before .before .before .before .before .before .before .before .before .before
+    .before .before .before .before .before .before .before .before .before .before .before .clear-columns .kept .1 .1 .1 .0
+
+same-length-13 : tie.Need-same-length-13
+same-length-13 c =
+    let last = c .before .before .before .before .before .before .before .before .before .before .before .before .before .before in
+    let ran = last .before .before .before .before .before .before .before .before .before .before .before .before .before .before
+    .before .before .before .before .before .before .before .before .before .before in
+    last .settle-columns .kept .1 .1 .1 .1 .1 .0 ∙ ran .run .kept .1 .1 .1 .1 .1 .1 .1 .1 .1 .1 .1 .1 .1 .1 .1 .1 .1 .1 .0
+    ∙ ran .before .before .before .before .before .before .before .before .before .before .before .before .before .before .before
+    .before .before .before .before .before .before .before .before .before .before .before .clear-columns .kept .1 .1 .1 .1 .0
+
+same-length-14 : tie.Need-same-length-14
+same-length-14 c =
+    let last = c .before .before .before .before .before .before .before .before .before .before .before .before .before .before in
+    let ran = last .before .before .before .before .before .before .before .before .before .before .before .before .before .before
+    .before .before .before .before .before .before .before .before .before .before in
+    last .settle-columns .kept .1 .1 .1 .1 .1 .1 .0 ∙ ran .run .kept .1 .1 .1 .1 .1 .1 .1 .1 .1 .1 .1 .1 .1 .1 .1 .1 .1 .1 .1 .0
+    ∙ ran .before .before .before .before .before .before .before .before .before .before .before .before .before .before .before
+    .before .before .before .before .before .before .before .before .before .before .before .clear-columns .kept .1 .1 .1 .1 .1 .0
+
+same-length-15 : tie.Need-same-length-15
+same-length-15 c =
+    let last = c .before .before .before .before .before .before .before .before .before .before .before .before .before .before in
+    let ran = last .before .before .before .before .before .before .before .before .before .before .before .before .before .before
+    .before .before .before .before .before .before .before .before .before .before in
+    last .settle-columns .kept .1 .1 .1 .1 .1 .1 .1 .0 ∙ ran .run .kept .1 .1 .1 .1 .1 .1 .1 .1 .1 .1 .1 .1 .1 .1 .1 .1 .1 .1 .1 .1 .0
+    ∙ ran .before .before .before .before .before .before .before .before .before .before .before .before .before .before .before
+    .before .before .before .before .before .before .before .before .before .before .before .clear-columns .kept .1 .1 .1 .1 .1 .1
+    .0
+
+same-length-16 : tie.Need-same-length-16
+same-length-16 c =
+    let ran = c .before .before .before .before .before .before .before .before .before .before .before .before .before .before .before
+    .before .before .before .before .before .before .before .before .before .before .before .before .before .before .before .before
+    .before .before .before .before .before .before .before in
+    ran .run .kept .1 .1 .1 .1 .1 .1 .1 .1 .1 .1 .1 .1 .1 .1 .1 .1 .1 .1 .1 .1 .1 .0
+
+returns-2 : tie.Need-returns-2
+returns-2 c =
+    let last = c .before .before .before .before .before .before .before .before .before .before .before .before .before .before in
+    let ran = last .before .before .before .before .before .before .before .before .before .before .before .before .before .before
+    .before .before .before .before .before .before .before .before .before .before in
+    let checked = ran .before .before .before .before .before .before .before .before .before .before .before in
+    let cleared = checked .before .before .before .before .before .before .before .before .before .before .before .before .before
+    .before .before in
+    let a = cleared .before .before .before .before .before .before .before .before .before .before .before .before .before .before
+    .before .before .before .before .before .before .before .before .before .before .before .before .args in
+    let j = jobOf (cellColumns (now (a .rows)) (now (a .cols)) (now (a .kinds)) (now (a .wraps)) (now (a .nums)) (now (a .ats)) (now
+    (a .lens)))
+    (now (a .region-rows)) (now (a .region-cols)) (now (a .pool)) (a .name) (a .rules) (a .start) in
+    let l = lengthsOf (lent (now (a .regions)) (now (a .ruleids)) (now (a .markkinds)) (now (a .colours)) (now (a .ppms))
+    (now (a .barrules)) (now (a .barppms)) (now (a .scratch))) in
+    let k = cleared .clear-columns .kept in
+    let e = cleared .clear-columns .ensures in
+    let g = ran .run .kept in
+    let z = last .settle-columns .ensures .1 in
+    let none-met = fine j (a .limit) l (checked .check .result) _ _ _ (k .1 .1 .1 .1 .1 .0) (k .1 .1 .1 .1 .1 .1 .0) refl
+    (checked .check .ensures)
+    (ran .before .before .before .before .before .before .before .before .before .before .match .keys2) in
+    let from = ended-as j (a .limit) l (checked-fine j l none-met) _ _ _
+    (marks-same (e .0) (e .1 .0) (e .1 .1 .0) (e .1 .1 .1 .0) (e .1 .1 .1 .1 .0)) (bars-same (e .1 .1 .1 .1 .1 .0) (e .1 .1 .1 .1 .1 .1))
+    (ran .run .ensures .0) in
+    let regions = g .1 .1 .1 .1 .1 .1 .1 .1 .1 .1 .1 .1 .1 .1 .0 ∙ k .0 in
+    let rules = g .1 .1 .1 .1 .1 .1 .1 .1 .1 .1 .1 .1 .1 .1 .1 .0 ∙ k .1 .0 in
+    let kinds = g .1 .1 .1 .1 .1 .1 .1 .1 .1 .1 .1 .1 .1 .1 .1 .1 .0 ∙ k .1 .1 .0 in
+    let colours = g .1 .1 .1 .1 .1 .1 .1 .1 .1 .1 .1 .1 .1 .1 .1 .1 .1 .0 ∙ k .1 .1 .1 .0 in
+    let ppms = g .1 .1 .1 .1 .1 .1 .1 .1 .1 .1 .1 .1 .1 .1 .1 .1 .1 .1 .0 ∙ k .1 .1 .1 .1 .0 in
+    let done = answers-settled j (a .limit) l none-met _ _ _ _ _ from (space-as l regions rules kinds colours ppms refl) (record {
+      regions = regions;
+      rules = rules;
+      kinds = kinds;
+      colours = colours;
+      ppms = ppms;
+      barRules = g .1 .1 .1 .1 .1 .1 .1 .1 .1 .1 .1 .1 .1 .1 .1 .1 .1 .1 .1 .0 ∙ k .1 .1 .1 .1 .1 .0;
+      barPpms = g .1 .1 .1 .1 .1 .1 .1 .1 .1 .1 .1 .1 .1 .1 .1 .1 .1 .1 .1 .1 .0 ∙ k .1 .1 .1 .1 .1 .1 .0;
+    }) (last .settle-columns .ensures .0) refl
+    (lent-same (z .0) (z .1 .0) (z .1 .1 .0) (z .1 .1 .1 .0) (z .1 .1 .1 .1 .0) (z .1 .1 .1 .1 .1 .0) (z .1 .1 .1 .1 .1 .1)
+    (ran .run .ensures .1)) in
+    (done .answer, done .columns)
+
+pub resolve-conditional-paints-spec : {M : Type 1} → statement M
+resolve-conditional-paints-spec =
+    tie.close
+    (tie.spec (λ _ _. tt) (λ _ _. tt) enum-known-checked (λ _ _. tt)
+    same-length same-length-2 same-length-3 same-length-4 same-length-5 same-length-6 same-length-7 same-length-8 returns
+    enum-told (λ _ _. tt) (λ _ _. tt)
+    same-length-9 same-length-10 same-length-11 same-length-12 same-length-13 same-length-14 same-length-15 same-length-16 returns-2)

@@ -1,0 +1,4 @@
+pub mod Marks
+pub mod States
+pub mod Turns
+pub mod MarkTurns

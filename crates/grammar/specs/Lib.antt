@@ -1,0 +1,3 @@
+pub mod Gram
+pub mod Parts
+pub mod Numbers

@@ -1,0 +1,10 @@
+pub mod Fields
+pub mod Rules
+pub mod Text
+pub mod Lengths
+pub mod Reading
+pub mod Computing
+pub mod WorkedText
+pub mod AcceptedTexts
+pub mod RefusedTexts
+pub mod LaidTexts

@@ -1,0 +1,79 @@
+-- The grammar of the whole job text is exact. Assumes nothing.
+use Prim.Native.Nat.{ℕ, _≤_, _<_}
+use mathlib.Core.Path.{_≡_, refl, sym, ap, _∙_}
+use mathlib.Core.List.{List, [], _∷_}
+use native.Mathlib.Omega.{arith}
+use lib.ListN.{length}
+use Rattle.grammar.specs.Gram.{Gram, Exactly}
+use Rattle.grammar.specs.Parts.{bytes, following}
+use Rattle.grammar.proofs.Parts.{behind-exact, following-exact, both-exact, readAs-exact, times-exact, times-length}
+use Rattle.jobtext.specs.Written.{CellLine, RuleLine, JobText}
+use Rattle.jobtext.specs.Fields.{space, lineFeed}
+use Rattle.jobtext.specs.Rules.{ruleLine}
+use Rattle.jobtext.specs.Text.{
+  Head,
+  toHead,
+  ofHead,
+  head,
+  toCell,
+  ofCell,
+  cellLine,
+  toRegion,
+  ofRegion,
+  regionLine,
+  bodyT,
+  body,
+  toJob,
+  ofJob,
+  job,
+}
+use Rattle.jobtext.proofs.Fields.{count-exact, row-exact, col-exact, wraps-exact, text-exact, feed-no-digit, value-exact}
+use Rattle.jobtext.proofs.Rules.{rule-exact}
+
+pub head-exact : Exactly head
+unfolding head
+head-exact =
+    behind-exact
+    (readAs-exact
+    (both-exact count-exact
+    (both-exact count-exact
+    (both-exact count-exact (both-exact count-exact (both-exact count-exact (text-exact lineFeed feed-no-digit))))))
+    toHead ofHead (λ x _. refl) (λ h. refl))
+    (bytes "limit start cells regions rules name\n")
+
+pub cell-exact : Exactly cellLine
+unfolding cellLine
+cell-exact =
+    readAs-exact
+    (both-exact (row-exact space (omega arith)) (both-exact (col-exact space (omega arith)) (both-exact wraps-exact value-exact)))
+    toCell ofCell (λ x _. refl) (λ c. refl)
+
+pub region-exact : Exactly regionLine
+unfolding regionLine
+region-exact =
+    readAs-exact (both-exact (row-exact space (omega arith)) (col-exact lineFeed (omega arith))) toRegion ofRegion (λ x _. refl) (λ r. refl)
+
+pub body-exact : (h : Head) → Exactly (body h)
+unfolding body
+body-exact h =
+    behind-exact
+    (both-exact (times-exact cell-exact (h .cells))
+    (behind-exact
+    (both-exact (times-exact region-exact (h .regions))
+    (behind-exact (times-exact rule-exact (h .rules)) (bytes "top left bottom right priority stop imported rule p1 p2 p3 p4\n")))
+    (bytes "row col\n")))
+    (bytes "row col wraps value\n")
+
+-- the numbers of the second line are those of the lines that follow
+pub job-back : (x : Head × bodyT) → following head body .Ok x → ofJob (toJob x) ≡ x
+unfolding body
+job-back x o =
+    rw (
+      times-length (cellLine .Ok) (x .0 .cells) (x .1 .0) (o .1 .0),
+      times-length (regionLine .Ok) (x .0 .regions) (x .1 .1 .0) (o .1 .1 .0),
+      times-length (ruleLine .Ok) (x .0 .rules) (x .1 .1 .1) (o .1 .1 .1),
+    )
+
+pub job-exact : Exactly job
+unfolding job
+job-exact = readAs-exact (following-exact head-exact body-exact) toJob ofJob job-back (λ j. refl)

@@ -1,0 +1,7 @@
+pub mod SameKeys
+pub mod Naming
+pub mod Keys
+pub mod Holding
+pub mod Comparing
+pub mod Searching
+pub mod Places

@@ -1,0 +1,4 @@
+pub mod Charges
+pub mod Planning
+pub mod Judging
+pub mod Laws

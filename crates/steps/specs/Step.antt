@@ -1,0 +1,81 @@
+-- One rule up to the writing of its marks: what the charges come to, what is said of the regions, and whether the rule counts as deferred
+-- and as simplified. Once a charge ahead of the regions is refused nothing is said. Assumes nothing.
+use Prim.Native.Nat.{ℕ, min}
+use mathlib.Core.Bool.{Bool, true, false, cond, _&&_}
+use mathlib.Core.List.{List}
+use lib.ListN.{length, take, replicate}
+use Rattle.charging.specs.declared.Charged.{Charged}
+use Rattle.charging.specs.Charge.{one, andThen, spend}
+use Rattle.model.specs.declared.CfRule.{CfRule}
+use Rattle.model.specs.declared.Outcome.{Outcome}
+use Rattle.model.specs.declared.Plan.{Plan}
+use Rattle.model.specs.declared.Rule.{Rule}
+use Rattle.model.specs.Sheet.{Sheet, upright}
+use Rattle.model.specs.Rule.{values, ahead, plan}
+use Rattle.plans.specs.Plans.{takesValues, planOfValues, testsBar}
+use Rattle.judge.specs.declared.Said.{Said}
+use Rattle.judge.specs.declared.Judged.{Judged}
+use Rattle.judge.specs.Judge.{said, judgedAs, judgedOf, outcomesFrom}
+use Rattle.steps.specs.declared.Step.{Step}
+
+-- ---- ahead of the regions
+
+unfoldable pub isDuplicates : CfRule → Bool
+isDuplicates (CfRule.CellIs op first second fill) = false
+isDuplicates (CfRule.ColorScale2 min max) = false
+isDuplicates (CfRule.ColorScale3 min mid max) = false
+isDuplicates (CfRule.DataBar color) = false
+isDuplicates (CfRule.TopBottom number bottom percent fill) = false
+isDuplicates (CfRule.AboveAverage below fill) = false
+isDuplicates (CfRule.DuplicateValues unique fill) = true
+isDuplicates (CfRule.Expression op left right fill) = false
+
+-- what the charges come to with those ahead of the regions
+abbrev pub aheadOfRegions : Sheet → Rule → ℕ → Charged → Charged
+aheadOfRegions s r limit charged = andThen charged (λ c. spend limit c (ahead s r))
+
+-- what a rule comes to where there is room for so many values; those that do not fit do not count
+unfoldable pub planIn : ℕ → Sheet → Rule → Plan
+planIn room s r =
+    cond (upright (r .range) && takesValues (r .kind)) (planOfValues (r .kind) (take room (values s (r .range)))) (plan s r)
+
+-- ---- the regions
+
+abbrev pub nothingSaid : List Said
+nothingSaid = replicate 1024 (said Outcome.Stopped)
+
+-- a plan that is not tested asks no region; a deferred one is given up
+unfoldable pub judgedIn : Sheet → Rule → List ℕ → List ℕ → List ℕ → Plan → Judged
+judgedIn s r rows cols flags Plan.Deferred = judgedAs nothingSaid 0 true
+judgedIn s r rows cols flags Plan.Skipped = judgedAs nothingSaid 0 false
+judgedIn s r rows cols flags (Plan.Tested test) = judgedOf (outcomesFrom s r test rows cols flags 0 (min (length rows) 1024))
+
+-- ---- the rule
+
+abbrev pub refusedStep : Charged → Step
+refusedStep charged = record { charged = charged; outcomes = nothingSaid; deferred = 0; simplified = 0 }
+
+-- the regions are charged at the count that the charges ahead of them left
+abbrev pub saidStep : ℕ → ℕ → Bool → Judged → Step
+saidStep limit count bar judged =
+    record {
+      charged = spend limit count (replicate (judged .asked) one);
+      outcomes = judged .outcomes;
+      deferred = cond (judged .unresolved) 1 0;
+      simplified = cond bar 1 0;
+    }
+
+-- by what the charges ahead of the regions came to
+unfoldable pub stepFrom : ℕ → Bool → Judged → Charged → Step
+stepFrom limit bar judged (Charged.Within c) = saidStep limit (c .count) bar judged
+stepFrom limit bar judged (Charged.LimitExceeded c actual) = refusedStep (Charged.LimitExceeded c actual)
+stepFrom limit bar judged (Charged.CoordinateOverflow c) = refusedStep (Charged.CoordinateOverflow c)
+
+-- by the plan too
+abbrev pub stepBy : Sheet → Rule → ℕ → List ℕ → List ℕ → List ℕ → Plan → Charged → Step
+stepBy s r limit rows cols flags p charged = stepFrom limit (testsBar p) (judgedIn s r rows cols flags p) charged
+
+-- `charged` is what the charges so far came to, `rows` and `cols` are the regions', `flags` says which of them are stopped
+unfoldable pub stepOf : Sheet → Rule → Charged → ℕ → List ℕ → List ℕ → List ℕ → ℕ → Step
+stepOf s r charged limit rows cols flags room =
+    stepBy s r limit rows cols flags (planIn room s r) (aheadOfRegions s r limit charged)
