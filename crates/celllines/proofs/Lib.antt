@@ -1,0 +1,4 @@
+pub mod Values
+pub mod Cells
+pub mod Sections
+pub mod Whole

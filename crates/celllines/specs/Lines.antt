@@ -1,0 +1,49 @@
+-- What the readers of cell lines answer for each result of the grammar, and what they leave in the columns and in the pool.
+-- Assumes nothing.
+use Prim.Native.Nat.{ℕ, _+_}
+use mathlib.Core.Bool.{Bool, true, false, cond}
+use mathlib.Core.List.{List, [], _∷_}
+use mathlib.Core.Path.{_≡_}
+use lib.ListN.{length, replicate}
+use lib.Seq.{sets}
+use Rattle.model.specs.Sheet.{CellColumns}
+use Rattle.grammar.specs.Gram.{Got}
+use Rattle.grammar.specs.Gram.Got.{got, bad}
+use Rattle.grammar.specs.Parts.{times}
+use Rattle.fields.specs.Room.{roomy}
+use Rattle.jobtext.specs.Written.{Value, CellLine}
+use Rattle.jobtext.specs.Text.{cellLine}
+use Rattle.jobtext.specs.Laid.{valueBytes, cellBytes, kindOf, numOf, atOf, lenOf, columnsFrom}
+use Rattle.celllines.specs.declared.ReadValue.{ReadValue}
+use Rattle.celllines.specs.declared.ReadCell.{ReadCell}
+use Rattle.celllines.specs.declared.Section.{Section}
+
+-- a value whose text, if it has one, goes to u in the pool; nothing is said of the other fields where none was read
+abbrev pub IsValue : Got Value → ℕ → ReadValue → Type 0
+IsValue (got v q) u r =
+    r ≡ record { ok = true; kind = kindOf v; num = numOf v; at = atOf u v; len = lenOf v; next = q; used = u + length (valueBytes v) }
+IsValue (bad p) u r = (r .ok ≡ false) × (r .next ≡ p)
+
+abbrev pub valuePooled : Got Value → ℕ → List ℕ → List ℕ
+valuePooled (got v q) u pool = sets pool u (valueBytes v)
+valuePooled (bad p) u pool = pool
+
+abbrev pub IsCell : Got CellLine → ℕ → ReadCell → Type 0
+IsCell (got c q) u r =
+    r ≡ record {
+      ok = true;
+      row = c .row;
+      col = c .col;
+      kind = kindOf (c .value);
+      wraps = c .wraps;
+      num = numOf (c .value);
+      at = atOf u (c .value);
+      len = lenOf (c .value);
+      next = q;
+      used = u + length (valueBytes (c .value));
+    }
+IsCell (bad p) u r = (r .ok ≡ false) × (r .next ≡ p)
+
+abbrev pub cellPooled : Got CellLine → ℕ → List ℕ → List ℕ
+cellPooled (got c q) u pool = sets pool u (valueBytes (c .value))
+cellPooled (bad p) u pool = pool

@@ -1,0 +1,4 @@
+pub mod Laws
+pub mod Pooling
+pub mod Room
+pub mod Bounds

@@ -1,0 +1,89 @@
+-- `fields::decode` meets its contract. The loop's invariant: storing the bytes of the pairs left from here on gives what storing all
+-- of them from the start gives. A store passes on to the next pair. The measure is the pairs left. Assumes nothing.
+use Prim.Native.Nat.{_+_, _-_, _*_, _≤_, _<_}
+use mathlib.Core.Path.{_≡_, refl, sym, ap, _∙_}
+use native.Mathlib.Omega.{arith}
+use lib.ListN.{length, drop}
+use lib.Seq.{sets}
+use Rattle.fields.specs.Field.{pairBytes}
+use Rattle.fields.proofs.Pooling.{sets-out, pooling-done, pooling-next, Left, left-next}
+use borrow.Author.Needs.{needs}
+use Rattle.fields.proofs.decode.Statement.{statement}
+use Rattle.fields.proofs.decode.Tie as tie
+use Rattle.fields.proofs.decode.Reads as reads
+use Rattle.fields.proofs.decode.Lts as lts
+use Rattle.fields.proofs.pair_byte.Reads as pair-byte-reads
+
+abbrev Inv-loop : tie.InvT-loop
+Inv-loop s at number pool₀ used k₀ q₀ u₀ pool k q u = Left s at number used pool₀ pool k q u
+
+abbrev μ-loop : tie.MeasureT-loop
+μ-loop s at number pool₀ used k₀ q₀ u₀ pool k q u = k
+
+loop-holds : tie.Need-loop-holds Inv-loop μ-loop
+loop-holds c = record { same = refl; inside = omega arith; long = refl }
+
+same-length : tie.Need-same-length Inv-loop μ-loop
+same-length c = c .before .before .loop .inv .long
+
+returns : tie.Need-returns Inv-loop μ-loop
+returns c = sym (sets-out (pairBytes (c .before .before .loop .k) (c .before .before .before .before .before .args .s .now) (c .before
+    .before .loop .q)) (c .before .before .loop .pool) (c .before .before .loop .u) (omega arith)) ∙ c .before .before .loop .inv .same
+
+shared-slice-read-pair-byte : tie.Need-shared-slice-read-pair-byte Inv-loop μ-loop
+shared-slice-read-pair-byte c = omega (arith, c .before .before .before .loop .inv .inside)
+
+add-pair-byte : tie.Need-add-pair-byte Inv-loop μ-loop
+add-pair-byte c = omega (arith, c .before .before .before .loop .inv .inside)
+
+shared-slice-read-pair-byte-2 : tie.Need-shared-slice-read-pair-byte-2 Inv-loop μ-loop
+shared-slice-read-pair-byte-2 c = omega (arith, c .before .before .before .before .loop .inv .inside)
+
+pair-byte-requires : tie.Need-pair-byte-requires Inv-loop μ-loop
+pair-byte-requires c κs = search needs
+
+slice-write-pool : tie.Need-slice-write-pool Inv-loop μ-loop
+slice-write-pool c = omega arith
+
+add-u : tie.Need-add-u Inv-loop μ-loop
+add-u c = search needs
+
+add-q : tie.Need-add-q Inv-loop μ-loop
+add-q c = omega (arith, c .before .before .before .before .before .loop .inv .inside)
+
+sub-k : tie.Need-sub-k Inv-loop μ-loop
+sub-k c = search needs
+
+loop-less : tie.Need-loop-less Inv-loop μ-loop
+loop-less c = omega arith
+
+loop-again : tie.Need-loop-again Inv-loop μ-loop
+loop-again c = left-next (c .before .before .before .before .before .loop .inv) (omega arith) (c .pair-byte .ensures)
+
+same-length-2 : tie.Need-same-length-2 Inv-loop μ-loop
+same-length-2 c = c .before .loop .inv .long
+
+returns-2 : tie.Need-returns-2 Inv-loop μ-loop
+returns-2 c = sym (pooling-done _ _ _ _ _ (omega arith)) ∙ c .before .loop .inv .same
+
+pub decode-spec : {M : Type 1} → statement M
+decode-spec =
+    tie.close
+    (tie.spec
+    Inv-loop
+    μ-loop
+    loop-holds
+    same-length
+    returns
+    shared-slice-read-pair-byte
+    add-pair-byte
+    shared-slice-read-pair-byte-2
+    pair-byte-requires
+    slice-write-pool
+    add-u
+    add-q
+    sub-k
+    loop-less
+    loop-again
+    same-length-2
+    returns-2)

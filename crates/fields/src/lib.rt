@@ -1,0 +1,388 @@
+// Readers of the fields of a job text. Each takes the text and a place, and gives the value and the place after it, or the place
+// at which the text cannot be read on.
+ghost use Prim.Native.Nat.{_+_, _*_, _%_, _≤_};
+ghost use mathlib.Core.List.{[], _∷_};
+ghost use mathlib.Core.Path.{_≡_};
+ghost use lib.ListN.{length, drop};
+ghost use lib.Seq.{sets};
+ghost use Rattle.grammar.specs.Parts.{byteP, wordP, ended, either};
+ghost use Rattle.grammar.specs.Numbers.{decimalFrom, decimalAt, decimalP, digitValue, hexP, hex, pairsFrom};
+ghost use Rattle.fields.specs.Room.{roomy};
+ghost use Rattle.fields.specs.Field.{fieldOf, wordOf, eitherOf, textOf, pooled, pairBytes};
+
+pub struct Field {
+    pub ok: bool,
+    pub value: u64,
+    pub next: usize,
+}
+
+fn wide(x: u8) -> u64
+    ensures { λ r. ⌜ r ≡ x ⌝ }
+{
+    x as u64
+}
+
+// ---- words
+
+pub fn byte(s: &[u8], at: usize, b: u8) -> Field
+    ensures { λ r. ⌜ r ≡ wordOf (byteP b (now (s .entry)) at) ⌝ }
+{
+    if s.len() <= at {
+        return Field {
+            ok: false,
+            value: 0,
+            next: at,
+        };
+    }
+    if s[at] == b {
+        return Field {
+            ok: true,
+            value: 0,
+            next: at + 1,
+        };
+    }
+    Field {
+        ok: false,
+        value: 0,
+        next: at,
+    }
+}
+
+pub fn word(s: &[u8], at: usize, w: &[u8]) -> Field
+    ensures { λ r. ⌜ r ≡ wordOf (wordP (now (w .entry)) (now (s .entry)) at) ⌝ }
+{
+    let mut i = 0;
+    let mut q = at;
+    while i < w.len() {
+        if s.len() <= q {
+            return Field {
+                ok: false,
+                value: 0,
+                next: q,
+            };
+        }
+        if s[q] != w[i] {
+            return Field {
+                ok: false,
+                value: 0,
+                next: q,
+            };
+        }
+        q += 1;
+        i += 1;
+    }
+    Field {
+        ok: true,
+        value: 0,
+        next: q,
+    }
+}
+
+// One of two words.
+pub fn either_word(s: &[u8], at: usize, w: &[u8], v: &[u8]) -> Field
+    ensures { λ r. ⌜ r ≡ eitherOf (either (now (w .entry)) (now (v .entry)) .parse (now (s .entry)) at) ⌝ }
+{
+    let first = word(s, at, w);
+    if first.ok {
+        return first;
+    }
+    let second = word(s, at, v);
+    if second.ok {
+        return Field {
+            ok: true,
+            value: 1,
+            next: second.next,
+        };
+    }
+    second
+}
+
+// ---- decimals
+
+// The rest of a number whose first digits, read already, are acc.
+fn more_digits(s: &[u8], at: usize, limit: u64, acc: u64) -> Field
+    ensures { λ r. ⌜ r ≡ fieldOf (decimalFrom limit acc at (drop at (now (s .entry)))) ⌝ }
+{
+    let mut n = acc;
+    let mut i = at;
+    while i < s.len() {
+        let d = s[i];
+        if d < 48 {
+            return Field {
+                ok: true,
+                value: n,
+                next: i,
+            };
+        }
+        if 57 < d {
+            return Field {
+                ok: true,
+                value: n,
+                next: i,
+            };
+        }
+        let v = wide(d - 48);
+        if limit / 10 < n {
+            return Field {
+                ok: false,
+                value: 0,
+                next: i,
+            };
+        }
+        if limit - n * 10 < v {
+            return Field {
+                ok: false,
+                value: 0,
+                next: i,
+            };
+        }
+        n = n * 10 + v;
+        i += 1;
+    }
+    Field {
+        ok: true,
+        value: n,
+        next: i,
+    }
+}
+
+// A number without a leading zero, at most limit, up to the first byte that is no digit.
+fn digits(s: &[u8], at: usize, limit: u64) -> Field
+    ensures { λ r. ⌜ r ≡ fieldOf (decimalAt limit at (drop at (now (s .entry)))) ⌝ }
+{
+    if s.len() <= at {
+        return Field {
+            ok: false,
+            value: 0,
+            next: at,
+        };
+    }
+    let first = s[at];
+    if first == 48 {
+        return Field {
+            ok: true,
+            value: 0,
+            next: at + 1,
+        };
+    }
+    if first < 48 {
+        return Field {
+            ok: false,
+            value: 0,
+            next: at,
+        };
+    }
+    if 57 < first {
+        return Field {
+            ok: false,
+            value: 0,
+            next: at,
+        };
+    }
+    let v = wide(first - 48);
+    if limit < v {
+        return Field {
+            ok: false,
+            value: 0,
+            next: at,
+        };
+    }
+    more_digits(s, at + 1, limit, v)
+}
+
+pub fn decimal(s: &[u8], at: usize, limit: u64, end: u8) -> Field
+    ensures { λ r. ⌜ r ≡ fieldOf (decimalP limit end (now (s .entry)) at) ⌝ }
+{
+    let d = digits(s, at, limit);
+    if !d.ok {
+        return d;
+    }
+    let e = byte(s, d.next, end);
+    if !e.ok {
+        return e;
+    }
+    Field {
+        ok: true,
+        value: d.value,
+        next: e.next,
+    }
+}
+
+// ---- hexadecimal digits
+
+// The value of a digit, 16 for what is none.
+fn digit_value(b: u8) -> u8
+    ensures { λ r. ⌜ r ≡ digitValue b ⌝ }
+{
+    if b < 48 {
+        return 16;
+    }
+    if b <= 57 {
+        return b - 48;
+    }
+    if b < 97 {
+        return 16;
+    }
+    if b <= 102 {
+        return b - 87;
+    }
+    16
+}
+
+fn hex_digits(s: &[u8], at: usize, number: usize) -> Field
+    requires { ⌜ number ≤ 16 ⌝ }
+    ensures { λ r. ⌜ r ≡ fieldOf (hexP number 0 (now (s .entry)) at) ⌝ }
+{
+    let mut acc: u64 = 0;
+    let mut q = at;
+    let mut k = number;
+    while 0 < k {
+        if s.len() <= q {
+            return Field {
+                ok: false,
+                value: 0,
+                next: q,
+            };
+        }
+        let d = digit_value(s[q]);
+        if 16 <= d {
+            return Field {
+                ok: false,
+                value: 0,
+                next: q,
+            };
+        }
+        acc = acc * 16 + wide(d);
+        q += 1;
+        k -= 1;
+    }
+    Field {
+        ok: true,
+        value: acc,
+        next: q,
+    }
+}
+
+// The two digits of a colour's channel.
+pub fn channel(s: &[u8], at: usize) -> Field
+    ensures { λ r. ⌜ r ≡ fieldOf (hexP 2 0 (now (s .entry)) at) ⌝ }
+{
+    hex_digits(s, at, 2)
+}
+
+// The 64 bits of a number, and the byte that ends them.
+pub fn bits(s: &[u8], at: usize, end: u8) -> Field
+    ensures { λ r. ⌜ r ≡ fieldOf (ended (hex 16) (end ∷ []) .parse (now (s .entry)) at) ⌝ }
+{
+    let d = hex_digits(s, at, 16);
+    if !d.ok {
+        return d;
+    }
+    let e = byte(s, d.next, end);
+    if !e.ok {
+        return e;
+    }
+    Field {
+        ok: true,
+        value: d.value,
+        next: e.next,
+    }
+}
+
+// ---- texts
+
+// How many bytes are written as pairs of digits up to the byte that ends them.
+fn pairs(s: &[u8], at: usize, end: u8) -> Field
+    ensures { λ r. ⌜ r ≡ textOf (pairsFrom end at (drop at (now (s .entry)))) ⌝ }
+{
+    let mut n: u64 = 0;
+    let mut q = at;
+    while q < s.len() {
+        if s[q] == end {
+            return Field {
+                ok: true,
+                value: n,
+                next: q + 1,
+            };
+        }
+        if s.len() - q < 2 {
+            return Field {
+                ok: false,
+                value: 0,
+                next: q,
+            };
+        }
+        if 16 <= digit_value(s[q]) {
+            return Field {
+                ok: false,
+                value: 0,
+                next: q,
+            };
+        }
+        if 16 <= digit_value(s[q + 1]) {
+            return Field {
+                ok: false,
+                value: 0,
+                next: q,
+            };
+        }
+        n += 1;
+        q += 2;
+    }
+    Field {
+        ok: false,
+        value: 0,
+        next: q,
+    }
+}
+
+fn pair_byte(hi: u8, lo: u8) -> u8
+    ensures { λ r. ⌜ r ≡ (digitValue hi * 16 + digitValue lo) % 256 ⌝ }
+{
+    let v = (wide(digit_value(hi)) * 16 + wide(digit_value(lo))) % 256;
+    v as u8
+}
+
+// Stores the bytes of some pairs from u on, where there is room.
+fn decode(s: &[u8], at: usize, number: u64, pool: &mut [u8], used: usize)
+    requires { ⌜ at + number * 2 ≤ length (now s) ⌝ }
+    ensures { λ _. ⌜ now (pool .exit) ≡ sets (now (pool .entry)) used (pairBytes number (now (s .entry)) at) ⌝ }
+{
+    let mut k = number;
+    let mut q = at;
+    let mut u = used;
+    while 0 < k {
+        if pool.len() <= u {
+            return;
+        }
+        pool[u] = pair_byte(s[q], s[q + 1]);
+        u += 1;
+        q += 2;
+        k -= 1;
+    }
+}
+
+// A text behind its `t`, with the byte that ends it: its length, and its bytes into the pool from `used` on.
+pub fn text(s: &[u8], at: usize, end: u8, pool: &mut [u8], used: usize) -> Field
+    ensures { λ r. ⌜ r ≡ textOf (pairsFrom end at (drop at (now (s .entry)))) ⌝ }
+    ensures { λ _. ⌜ now (pool .exit) ≡ pooled (pairsFrom end at (drop at (now (s .entry)))) used (now (pool .entry)) ⌝ }
+{
+    let n = pairs(s, at, end);
+    if n.ok {
+        decode(s, at, n.value, pool, used);
+    }
+    n
+}
+
+// The bounds that a reader of texts keeps: no further in the pool than in the text, which has at most 65,536 bytes.
+pub fn has_room(s: &[u8], at: usize, used: usize) -> bool
+    ensures { λ r. ⌜ r ≡ roomy (now (s .entry)) at used ⌝ }
+{
+    if at < used {
+        return false;
+    }
+    if s.len() < at {
+        return false;
+    }
+    s.len() <= 65536
+}

@@ -1,0 +1,104 @@
+// Text written into lent bytes, piece after piece: each function hands back the place after its piece.
+ghost use Prim.Native.Nat.{_<_};
+ghost use mathlib.Core.Path.{_≡_};
+ghost use mathlib.Core.List.{[], _∷_, _++_};
+ghost use lib.ListN.{length};
+ghost use Rattle.grammar.specs.Numbers.{decimalText, hexDigit, hexDigits};
+ghost use Rattle.put.specs.Laid.{Laid, keptLength, keptBytes};
+
+const LAST: usize = 18446744073709551615;
+
+pub fn put_byte(text: &mut [u8], at: usize, b: u8) -> usize
+    ensures { λ r. ⌜ Laid (now (text .entry)) at (b ∷ []) (now (text .exit)) r ⌝ }
+{
+    if at < text.len() {
+        text[at] = b;
+        return at + 1;
+    }
+    if at < LAST {
+        return at + 1;
+    }
+    LAST
+}
+
+pub fn put_bytes(text: &mut [u8], at: usize, piece: &[u8]) -> usize
+    ensures { λ r. ⌜ Laid (now (text .entry)) at (now (piece .entry)) (now (text .exit)) r ⌝ }
+{
+    let mut end = at;
+    let mut i = 0;
+    while i < piece.len() {
+        end = put_byte(text, end, piece[i]);
+        i += 1;
+    }
+    end
+}
+
+// A number in decimal.
+pub fn put_decimal(text: &mut [u8], at: usize, n: u64) -> usize
+    ensures { λ r. ⌜ Laid (now (text .entry)) at (decimalText n) (now (text .exit)) r ⌝ }
+{
+    if n < 10 {
+        put_byte(text, at, 48 + n as u8)
+    } else {
+        let end = put_decimal(text, at, n / 10);
+        put_byte(text, end, 48 + (n % 10) as u8)
+    }
+}
+
+// A number in decimal, and the byte that ends its field.
+pub fn put_number(text: &mut [u8], at: usize, n: u64, end: u8) -> usize
+    ensures { λ r. ⌜ Laid (now (text .entry)) at (decimalText n ++ (end ∷ [])) (now (text .exit)) r ⌝ }
+{
+    let next = put_decimal(text, at, n);
+    put_byte(text, next, end)
+}
+
+// The digit of a number below 16.
+fn hex_digit(d: u64) -> u8
+    requires { ⌜ d < 16 ⌝ }
+    ensures { λ r. ⌜ r ≡ hexDigit d ⌝ }
+{
+    if d < 10 {
+        return 48 + d as u8;
+    }
+    87 + d as u8
+}
+
+// The last k hexadecimal digits of a number.
+pub fn put_hex(text: &mut [u8], at: usize, k: usize, n: u64) -> usize
+    ensures { λ r. ⌜ Laid (now (text .entry)) at (hexDigits k n) (now (text .exit)) r ⌝ }
+{
+    if k == 0 {
+        at
+    } else {
+        let end = put_hex(text, at, k - 1, n / 16);
+        put_byte(text, end, hex_digit(n % 16))
+    }
+}
+
+// Zeros from a place on.
+pub fn clear_from(text: &mut [u8], from: usize)
+    ensures { λ _. ⌜ now (text .exit) ≡ keptBytes (now (text .entry)) from ⌝ }
+{
+    let mut i = from;
+    while i < text.len() {
+        text[i] = 0;
+        i += 1;
+    }
+}
+
+fn kept_length(len: usize, end: usize) -> usize
+    ensures { λ r. ⌜ r ≡ keptLength len end ⌝ }
+{
+    if end <= len { end } else { 0 }
+}
+
+// A text that ends at `end` stays if it fits, with zeros behind it; else there are zeros from end to end.
+pub fn keep(text: &mut [u8], end: usize) -> usize
+    ensures length { λ r. ⌜ r ≡ keptLength (length (now (text .entry))) end ⌝ }
+    ensures bytes { λ r. ⌜ now (text .exit) ≡ keptBytes (now (text .entry)) r ⌝ }
+{
+    let kept = kept_length(text.len(), end);
+    clear_from(text, kept);
+    kept
+}

@@ -1,0 +1,68 @@
+-- `report::put_mark_lines` meets its contract. The loop's invariant: the lines of the marks that are left, laid from here on, give what
+-- all lines give from the start. A line that is put is the first of them. The measure is how many marks are left. Assumes nothing.
+use Prim.Native.Nat.{_-_}
+use native.Mathlib.Omega.{arith}
+use mathlib.Core.Path.{sym}
+use borrow.Author.Needs.{needs}
+use borrow.Author.Needs.{needs}
+use Rattle.put.proofs.Laws.{LaidLeft, left-begun, left-more, left-done, laid-as}
+use Rattle.report.proofs.Lines.{marksFrom, marks-all, marks-next, marks-none}
+use Rattle.report.proofs.put_mark_lines.Statement.{statement}
+use Rattle.report.proofs.put_mark_lines.Tie as tie
+
+abbrev Inv-loop : tie.InvT-loop
+Inv-loop text₀ at n regions rules kinds colours ppms end₀ i₀ text end i =
+    LaidLeft text₀ at (marksFrom regions rules kinds colours ppms n 0) text end (marksFrom regions rules kinds colours ppms n i)
+
+abbrev μ-loop : tie.MeasureT-loop
+μ-loop text₀ at n regions rules kinds colours ppms end₀ i₀ text end i = n - i
+
+loop-holds : tie.Need-loop-holds Inv-loop μ-loop
+loop-holds c = left-begun (omega arith)
+
+put-mark-at-requires : tie.Need-put-mark-at-requires Inv-loop μ-loop
+put-mark-at-requires c κs = search needs
+
+add-i : tie.Need-add-i Inv-loop μ-loop
+add-i c = search needs
+
+loop-less : tie.Need-loop-less Inv-loop μ-loop
+loop-less c = search needs
+
+loop-again : tie.Need-loop-again Inv-loop μ-loop
+loop-again c =
+    let put = c .before .before in
+    let turn = put .before .before in
+    let args = turn .before .before .before .before .before .before .before .before .args in
+    left-more (omega arith) (turn .before .loop .inv)
+    (marks-next (args .regions .now) (args .rules .now) (args .kinds .now) (args .colours .now) (args .ppms .now)
+    (args .n) (turn .before .loop .i) (omega arith))
+    (put .put-mark-at .ensures)
+
+same-length : tie.Need-same-length Inv-loop μ-loop
+same-length c = c .before .loop .inv .long
+
+returns : tie.Need-returns Inv-loop μ-loop
+returns c =
+    let args = c .before .before .before .before .before .before .before .before .args in
+    laid-as (
+    left-done (c .before .loop .inv)
+    (marks-none (args .regions .now) (args .rules .now) (args .kinds .now) (args .colours .now) (args .ppms .now)
+    (args .n) (c .before .loop .i) (omega arith)))
+    (sym (
+    marks-all (args .regions .now) (args .rules .now) (args .kinds .now) (args .colours .now) (args .ppms .now)
+    (args .n)))
+
+pub put-mark-lines-spec : {M : Type 1} → statement M
+put-mark-lines-spec =
+    tie.close
+    (tie.spec
+    Inv-loop
+    μ-loop
+    loop-holds
+    put-mark-at-requires
+    add-i
+    loop-less
+    loop-again
+    same-length
+    returns)

@@ -1,0 +1,9 @@
+pub mod Computing
+pub mod Printed
+pub mod Colours
+pub mod Held
+pub mod Painted
+pub mod Runs
+pub mod Jobs
+pub mod Longest
+pub mod Attained

@@ -1,0 +1,75 @@
+-- Reports computed on the definition: the worked job of document 01 at limits 100, 11 and 10 as the paper prints it, marks without a
+-- colour and without a bar, no marks at all, and the refusals of a text. Assumes nothing.
+use Prim.Native.Nat.{ℕ}
+use mathlib.Core.Path.{_≡_, refl}
+use mathlib.Core.List.{List, [], _∷_, _++_}
+use Rattle.model.specs.declared.CfRule.{CfRule}
+use Rattle.model.specs.Answer.{refusal, refused}
+use Rattle.model.specs.Job.{Job, result}
+use Rattle.model.proofs.Computing.{jobs}
+use Rattle.model.proofs.Samples.{samples, lengths, decided, jobOf, down, regions, rows, rule, imported, above, green}
+use Rattle.model.proofs.WorkedJob.{job}
+use Rattle.grammar.specs.Parts.{bytes}
+use Rattle.reporttext.specs.Report.{reportOf}
+use Rattle.reporttext.proofs.Computing.{lines}
+
+abbrev names : List ℕ
+names = bytes "number place count actual marks deferred simplified\n"
+
+-- ---- the worked job
+
+abbrev worked : List ℕ
+worked =
+    names
+    ++ bytes "0 0 11 0 3 0 1\n"
+    ++ bytes "region rule kind colour ppm cells\n2 1 1 ff0000 - -\n0 0 3 00ff00 0 0\n1 0 3 00ff00 500000 20\n"
+    ++ bytes "region barrule ppm\n0 0 0\n1 0 500000\n"
+
+limit-100 : reportOf (result job 100 (lengths 1024 3 3)) ≡ worked
+unfolding jobs samples lines
+limit-100 = refl
+
+limit-11 : reportOf (result job 11 (lengths 1024 3 3)) ≡ worked
+unfolding jobs samples lines
+limit-11 = refl
+
+limit-10 : reportOf (result job 10 (lengths 1024 3 3)) ≡ names ++ bytes "7 0 11 11 0 0 0\n"
+unfolding jobs samples lines
+limit-10 = refl
+
+-- ---- other jobs
+
+-- an imported style has no colour; a bar with one keeps its own
+abbrev styled : Job
+styled =
+    jobOf (down (1 ∷ 2 ∷ [])) (regions 3) (imported (rule (rows 2) above) ∷ imported (rule (rows 2) (CfRule.DataBar green)) ∷ []) 0
+
+no-colour : reportOf (decided styled)
+    ≡ names
+    ++ bytes "0 0 10 0 3 0 1\n"
+    ++ bytes "region rule kind colour ppm cells\n1 0 2 - - -\n0 1 4 00ff00 0 0\n1 1 4 00ff00 1000000 40\n"
+    ++ bytes "region barrule ppm\n0 1 0\n1 1 1000000\n"
+unfolding jobs samples lines
+no-colour = refl
+
+-- a line of names, even above none
+no-marks : reportOf (decided (jobOf [] (regions 2) [] 7))
+    ≡ names ++ bytes "0 0 7 0 0 0 0\nregion rule kind colour ppm cells\nregion barrule ppm\n"
+unfolding jobs samples lines
+no-marks = refl
+
+-- ---- refusals of a text
+
+too-long : reportOf (refused (refusal 10 0 0 0)) ≡ names ++ bytes "10 0 0 0 0 0 0\n"
+unfolding lines
+too-long = refl
+
+bad-line : reportOf (refused (refusal 11 12 0 0)) ≡ names ++ bytes "11 12 0 0 0 0 0\n"
+unfolding lines
+bad-line = refl
+
+-- the early 2, with the starting count
+too-many : reportOf (refused (refusal 2 0 18_446_744_073_709_551_615 0))
+    ≡ names ++ bytes "2 0 18446744073709551615 0 0 0 0\n"
+unfolding lines
+too-many = refl

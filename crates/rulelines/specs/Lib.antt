@@ -1,0 +1,4 @@
+pub mod Lines
+pub mod RuleWords
+pub mod RuleLines
+pub mod RuleSections
