@@ -2,6 +2,7 @@
 
 use std::process::ExitCode;
 
+use oracle::command::{number, run_command};
 use oracle::drive::{compare, Progress, Run};
 use oracle::generate::numbers;
 use oracle::layout::probed::probe;
@@ -13,15 +14,7 @@ use oracle::tour::Tour;
 const USAGE: &str = "usage: compare jobs SEED COUNT [FROM] | compare leaves SEED COUNT | compare list FILE";
 
 fn main() -> ExitCode {
-    let args: Vec<String> = std::env::args().skip(1).collect();
-    let args: Vec<&str> = args.iter().map(String::as_str).collect();
-    match run(&args) {
-        Ok(()) => ExitCode::SUCCESS,
-        Err(message) => {
-            eprintln!("compare: {message}");
-            ExitCode::FAILURE
-        }
-    }
+    run_command("compare", run)
 }
 
 fn run(args: &[&str]) -> Result<(), String> {
@@ -32,10 +25,6 @@ fn run(args: &[&str]) -> Result<(), String> {
         ["list", file] => list(file),
         _ => Err(USAGE.to_string()),
     }
-}
-
-fn number(word: &str) -> Result<u64, String> {
-    word.parse().map_err(|_| format!("{word:?} is no number"))
 }
 
 fn jobs(seed: u64, from: u64, count: u64) -> Result<(), String> {

@@ -3,6 +3,7 @@
 use std::io::{BufWriter, Read, Write};
 use std::process::ExitCode;
 
+use oracle::command::{number, run_command};
 use oracle::curated;
 use oracle::generate::{class_named, make, make_in, CLASSES};
 use oracle::layout::ORIGINAL;
@@ -19,47 +20,35 @@ const USAGE: &str = "usage: oracle report < job | job SEED NUMBER [CLASS] | clas
     | leaves < lines | leaf-lines LEAF SEED COUNT | leaf-lines every-split LENGTH | leaf-lines every-channel";
 
 fn main() -> ExitCode {
-    let args: Vec<String> = std::env::args().skip(1).collect();
-    let args: Vec<&str> = args.iter().map(String::as_str).collect();
-    match run(&args) {
-        Ok(()) => ExitCode::SUCCESS,
-        Err(message) => {
-            eprintln!("oracle: {message}");
-            ExitCode::FAILURE
-        }
-    }
+    run_command("oracle", run)
 }
 
 fn run(args: &[&str]) -> Result<(), String> {
     match args {
         ["report"] => put(&report(&input()?)),
-        ["job", seed, number] => put(&make(count(seed)?, count(number)?).text),
-        ["job", seed, number, class] => {
+        ["job", seed, which] => put(&make(number(seed)?, number(which)?).text),
+        ["job", seed, which, class] => {
             let class = class_named(class).ok_or(format!("no class {class}"))?;
-            put(&make_in(count(seed)?, count(number)?, class).text)
+            put(&make_in(number(seed)?, number(which)?, class).text)
         }
         ["classes"] => put(CLASSES.map(|class| format!("{} {}\n", class.0, class.1)).concat().as_bytes()),
-        ["tour", seed, jobs] => tour(count(seed)?, count(jobs)?),
-        ["store", seed] => store(count(seed)?),
-        ["list", seed, jobs] => list(count(seed)?, count(jobs)?),
+        ["tour", seed, jobs] => tour(number(seed)?, number(jobs)?),
+        ["store", seed] => store(number(seed)?),
+        ["list", seed, jobs] => list(number(seed)?, number(jobs)?),
         ["damage-list"] => damage_list(),
         ["replay"] => replay(),
         ["leaves"] => leaves(),
         ["leaf-lines", "every-channel"] => leaf_lines(&mut |put| every_channel(put)),
         ["leaf-lines", "every-split", longest] => {
-            let longest = count(longest)? as u32;
+            let longest = number(longest)? as u32;
             leaf_lines(&mut |put| every_split(longest, put))
         }
         ["leaf-lines", leaf, seed, lines] if LEAVES.contains(leaf) => {
-            let (mut rng, lines) = (Rng::new(count(seed)?, 0), count(lines)?);
+            let (mut rng, lines) = (Rng::new(number(seed)?, 0), number(lines)?);
             leaf_lines(&mut |put| (0..lines).for_each(|_| put(&line(&mut rng, leaf))))
         }
         _ => Err(USAGE.to_string()),
     }
-}
-
-fn count(word: &str) -> Result<u64, String> {
-    word.parse().map_err(|_| format!("{word:?} is no number"))
 }
 
 fn input() -> Result<Vec<u8>, String> {
