@@ -143,30 +143,6 @@ fn read_cell(s: &[u8], at: usize, pool: &mut [u8], used: usize) -> ReadCell
     }
 }
 
-fn put_u8(s: &mut [u8], i: usize, v: u8)
-    ensures { λ _. ⌜ now (s .exit) ≡ set (now (s .entry)) i v ⌝ }
-{
-    if i < s.len() {
-        s[i] = v;
-    }
-}
-
-fn put_u16(s: &mut [u16], i: usize, v: u16)
-    ensures { λ _. ⌜ now (s .exit) ≡ set (now (s .entry)) i v ⌝ }
-{
-    if i < s.len() {
-        s[i] = v;
-    }
-}
-
-fn put_u64(s: &mut [u64], i: usize, v: u64)
-    ensures { λ _. ⌜ now (s .exit) ≡ set (now (s .entry)) i v ⌝ }
-{
-    if i < s.len() {
-        s[i] = v;
-    }
-}
-
 // Stores a cell at an index, where there is room.
 fn store_cell(
     i: usize,
@@ -184,10 +160,10 @@ fn store_cell(
         (wraps .entry)) (now (nums .entry)) (now (ats .entry)) (now (lens .entry))) ⌝ }
 {
     lent::put_u32(rows, i, c.row);
-    put_u16(cols, i, c.col);
-    put_u8(kinds, i, c.kind);
-    put_u8(wraps, i, c.wraps);
-    put_u64(nums, i, c.num);
+    lent::put_u16(cols, i, c.col);
+    lent::put_u8(kinds, i, c.kind);
+    lent::put_u8(wraps, i, c.wraps);
+    lent::put_u64(nums, i, c.num);
     lent::put_u32(ats, i, c.at);
     lent::put_u32(lens, i, c.len);
 }
@@ -237,38 +213,8 @@ fn read_lines(
     }
 }
 
-fn clear_u8(s: &mut [u8])
-    ensures { λ _. ⌜ now (s .exit) ≡ replicate (length (now (s .entry))) 0 ⌝ }
-{
-    let mut i = 0;
-    while i < s.len() {
-        s[i] = 0;
-        i += 1;
-    }
-}
-
-fn clear_u16(s: &mut [u16])
-    ensures { λ _. ⌜ now (s .exit) ≡ replicate (length (now (s .entry))) 0 ⌝ }
-{
-    let mut i = 0;
-    while i < s.len() {
-        s[i] = 0;
-        i += 1;
-    }
-}
-
-fn clear_u64(s: &mut [u64])
-    ensures { λ _. ⌜ now (s .exit) ≡ replicate (length (now (s .entry))) 0 ⌝ }
-{
-    let mut i = 0;
-    while i < s.len() {
-        s[i] = 0;
-        i += 1;
-    }
-}
-
 // Zeros from end to end.
-fn clear_cells(
+pub fn clear_cells(
     rows: &mut [u32],
     cols: &mut [u16],
     kinds: &mut [u8],
@@ -284,13 +230,13 @@ fn clear_cells(
     ensures { λ _. ⌜ now (pool .exit) ≡ replicate (length (now (pool .entry))) 0 ⌝ }
 {
     lent::clear_u32(rows);
-    clear_u16(cols);
-    clear_u8(kinds);
-    clear_u8(wraps);
-    clear_u64(nums);
+    lent::clear_u16(cols);
+    lent::clear_u8(kinds);
+    lent::clear_u8(wraps);
+    lent::clear_u64(nums);
     lent::clear_u32(ats);
     lent::clear_u32(lens);
-    clear_u8(pool);
+    lent::clear_u8(pool);
 }
 
 // Lines of cells into the columns from index 0 on, with their texts into the pool from `used` on. Where a line is malformed, or the

@@ -1,5 +1,5 @@
--- What goes to the pool is no longer than the text that it is read from. Assumes nothing.
-use Prim.Native.Nat.{ℕ, _+_, _*_, _≤_, _<_}
+-- What goes to the pool is at most half as long as the text that it is read from. Assumes nothing.
+use Prim.Native.Nat.{ℕ, zero, suc, _+_, _*_, _≤_, _<_}
 use mathlib.Core.Path.{_≡_, refl, sym, ap, _∙_}
 use mathlib.Core.List.{List, [], _∷_, _++_}
 use mathlib.Core.Bool.{Bool, true, false}
@@ -11,78 +11,108 @@ use Rattle.model.specs.declared.DvOp.{DvOp}
 use Rattle.model.specs.declared.Rgb.{Rgb}
 use Rattle.model.specs.Comparison.{usesSecond}
 use Rattle.grammar.specs.Gram.{Gram}
-use Rattle.grammar.specs.Parts.{bytes}
+use Rattle.grammar.specs.Parts.{bytes, timesText, timesOk}
 use Rattle.grammar.specs.Numbers.{pairsText}
 use Rattle.jobtext.specs.Written.{Value, CellLine, Reference, Operand, Kind, RuleLine}
 use Rattle.jobtext.specs.Fields.{textField, value, referenceName, reference, operand}
 use Rattle.jobtext.specs.Rules.{secondIf, cellIs, expr, kind, ruleLine}
 use Rattle.jobtext.specs.Text.{cellLine}
-use Rattle.jobtext.specs.Laid.{valueBytes, nameBytes, operandBytes, kindBytes}
+use Rattle.jobtext.specs.Laid.{valueBytes, cellBytes, nameBytes, operandBytes, kindBytes, ruleBytes}
 
-pub pairs-length : (bs : List ℕ) → length bs ≤ length (pairsText bs)
+pub pairs-length : (bs : List ℕ) → length bs * 2 ≡ length (pairsText bs)
 unfolding pairsText
-pairs-length [] = omega arith
+pairs-length [] = refl
 pairs-length (b ∷ bs) = let h = pairs-length bs in omega arith
 
-pub value-length : (v : Value) → length (valueBytes v) ≤ length (value .text v)
+value-half : (v : Value) → length (valueBytes v) * 2 ≤ length (value .text v)
 unfolding value valueBytes bytes
-value-length (Value.number bits) = omega arith
-value-length (Value.date bits) = omega arith
-value-length (Value.text bs) = let h = pairs-length bs in simp length-append (omega arith)
-value-length (Value.bool b) = omega arith
-value-length Value.error = omega arith
+value-half (Value.number bits) = omega arith
+value-half (Value.date bits) = omega arith
+value-half (Value.text bs) = let h = pairs-length bs in simp length-append (omega arith)
+value-half (Value.bool b) = omega arith
+value-half Value.error = omega arith
+
+pub value-length : (v : Value) → length (valueBytes v) ≤ length (value .text v)
+value-length v = let h = value-half v in omega arith
+
+pub cell-half : (c : CellLine) → length (valueBytes (c .value)) * 2 ≤ length (cellLine .text c)
+unfolding cellLine
+cell-half c = let h = value-half (c .value) in simp length-append (omega arith)
 
 pub cell-length : (c : CellLine) → length (valueBytes (c .value)) ≤ length (cellLine .text c)
-unfolding cellLine
-cell-length c = let h = value-length (c .value) in simp length-append (omega arith)
+cell-length c = let h = cell-half c in omega arith
 
-name-length : (n : Option (List ℕ)) → length (nameBytes n) ≤ length (referenceName .text n)
+name-half : (n : Option (List ℕ)) → length (nameBytes n) * 2 ≤ length (referenceName .text n)
 unfolding referenceName textField nameBytes bytes
-name-length none = omega arith
-name-length (some bs) = let h = pairs-length bs in simp length-append (omega arith)
+name-half none = omega arith
+name-half (some bs) = let h = pairs-length bs in simp length-append (omega arith)
 
-reference-length : (r : Reference) → length (nameBytes (r .name)) ≤ length (reference .text r)
+reference-half : (r : Reference) → length (nameBytes (r .name)) * 2 ≤ length (reference .text r)
 unfolding reference
-reference-length r = let h = name-length (r .name) in simp length-append (omega arith)
+reference-half r = let h = name-half (r .name) in simp length-append (omega arith)
+
+operand-half : (o : Operand) → length (operandBytes o) * 2 ≤ length (operand .text o)
+unfolding operand operandBytes bytes
+operand-half (Operand.literal bits) = omega arith
+operand-half (Operand.reference r) = let h = reference-half r in omega arith
+operand-half Operand.unread = omega arith
 
 pub operand-length : (o : Operand) → length (operandBytes o) ≤ length (operand .text o)
-unfolding operand operandBytes bytes
-operand-length (Operand.literal bits) = omega arith
-operand-length (Operand.reference r) = let h = reference-length r in omega arith
-operand-length Operand.unread = omega arith
+operand-length o = let h = operand-half o in omega arith
 
-second-length : (b : Bool) (o : Operand) → secondIf b .Ok o → length (operandBytes o) ≤ length (secondIf b .text o)
+second-half : (b : Bool) (o : Operand) → secondIf b .Ok o → length (operandBytes o) * 2 ≤ length (secondIf b .text o)
 unfolding operandBytes
-second-length true o h = operand-length o
-second-length false o h = rw h (omega arith)
+second-half true o h = operand-half o
+second-half false o h = rw h (omega arith)
 
-cellIs-length : (op : DvOp) (first second : Operand) (fill : Rgb) → cellIs .Ok (op, (first, (second, fill)))
-    → length (operandBytes first) + length (operandBytes second) ≤ length (cellIs .text (op, (first, (second, fill))))
+cellIs-half : (op : DvOp) (first second : Operand) (fill : Rgb) → cellIs .Ok (op, (first, (second, fill)))
+    → (length (operandBytes first) + length (operandBytes second)) * 2 ≤ length (cellIs .text (op, (first, (second, fill))))
 unfolding cellIs
-cellIs-length op first second fill o =
-    let a = operand-length first in
-    let b = second-length (usesSecond op) second (o .1 .1 .0) in
+cellIs-half op first second fill o =
+    let a = operand-half first in
+    let b = second-half (usesSecond op) second (o .1 .1 .0) in
     simp length-append (omega arith)
 
-expr-length : (op : ConditionalComparison) (left right : Operand) (fill : Rgb)
-    → length (operandBytes left) + length (operandBytes right) ≤ length (expr .text (op, (left, (right, fill))))
+expr-half : (op : ConditionalComparison) (left right : Operand) (fill : Rgb)
+    → (length (operandBytes left) + length (operandBytes right)) * 2 ≤ length (expr .text (op, (left, (right, fill))))
 unfolding expr
-expr-length op left right fill =
-    let a = operand-length left in
-    let b = operand-length right in
+expr-half op left right fill =
+    let a = operand-half left in
+    let b = operand-half right in
     simp length-append (omega arith)
+
+kind-half : (k : Kind) → kind .Ok k → length (kindBytes k) * 2 ≤ length (kind .text k)
+unfolding kind kindBytes
+kind-half (Kind.cellIs op first second fill) o = let h = cellIs-half op first second fill o in simp length-append (omega arith)
+kind-half (Kind.scale2 min max) o = omega arith
+kind-half (Kind.scale3 min mid max) o = omega arith
+kind-half (Kind.bar colour) o = omega arith
+kind-half (Kind.rank number bottom percent fill) o = omega arith
+kind-half (Kind.mean below fill) o = omega arith
+kind-half (Kind.same unique fill) o = omega arith
+kind-half (Kind.expr op left right fill) o = let h = expr-half op left right fill in simp length-append (omega arith)
 
 pub kind-length : (k : Kind) → kind .Ok k → length (kindBytes k) ≤ length (kind .text k)
-unfolding kind kindBytes
-kind-length (Kind.cellIs op first second fill) o = let h = cellIs-length op first second fill o in simp length-append (omega arith)
-kind-length (Kind.scale2 min max) o = omega arith
-kind-length (Kind.scale3 min mid max) o = omega arith
-kind-length (Kind.bar colour) o = omega arith
-kind-length (Kind.rank number bottom percent fill) o = omega arith
-kind-length (Kind.mean below fill) o = omega arith
-kind-length (Kind.same unique fill) o = omega arith
-kind-length (Kind.expr op left right fill) o = let h = expr-length op left right fill in simp length-append (omega arith)
+kind-length k o = let h = kind-half k o in omega arith
+
+pub rule-half : (r : RuleLine) → ruleLine .Ok r → length (kindBytes (r .kind)) * 2 ≤ length (ruleLine .text r)
+unfolding ruleLine
+rule-half r o = let h = kind-half (r .kind) (o .1 .1 .1 .1 .1 .1 .1) in simp length-append (omega arith)
 
 pub rule-length : (r : RuleLine) → ruleLine .Ok r → length (kindBytes (r .kind)) ≤ length (ruleLine .text r)
-unfolding ruleLine
-rule-length r o = let h = kind-length (r .kind) (o .1 .1 .1 .1 .1 .1 .1) in simp length-append (omega arith)
+rule-length r o = let h = rule-half r o in omega arith
+
+-- ---- sections
+
+pub cells-half : (cs : List CellLine) → length (cellBytes cs) * 2 ≤ length (timesText (cellLine .text) cs)
+unfolding cellBytes timesText
+cells-half [] = omega arith
+cells-half (c ∷ cs) = let a = cell-half c in let b = cells-half cs in simp length-append (omega arith)
+
+pub rules-half : (n : ℕ) (rs : List RuleLine) → timesOk (ruleLine .Ok) n rs
+    → length (ruleBytes rs) * 2 ≤ length (timesText (ruleLine .text) rs)
+unfolding ruleBytes timesText
+rules-half zero [] o = omega arith
+rules-half (suc n) [] o = absurd o
+rules-half zero (r ∷ rs) o = absurd o
+rules-half (suc n) (r ∷ rs) o = let a = rule-half r (o .0) in let b = rules-half n rs (o .1) in simp length-append (omega arith)

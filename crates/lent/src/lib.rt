@@ -27,6 +27,22 @@ pub fn at_u64(s: &[u64], i: usize) -> u64
     if i < s.len() { s[i] } else { 0 }
 }
 
+pub fn put_u8(s: &mut [u8], i: usize, v: u8)
+    ensures { λ _. ⌜ now (s .exit) ≡ set (now (s .entry)) i v ⌝ }
+{
+    if i < s.len() {
+        s[i] = v;
+    }
+}
+
+pub fn put_u16(s: &mut [u16], i: usize, v: u16)
+    ensures { λ _. ⌜ now (s .exit) ≡ set (now (s .entry)) i v ⌝ }
+{
+    if i < s.len() {
+        s[i] = v;
+    }
+}
+
 pub fn put_u32(s: &mut [u32], i: usize, v: u32)
     ensures { λ _. ⌜ now (s .exit) ≡ set (now (s .entry)) i v ⌝ }
 {
@@ -35,7 +51,36 @@ pub fn put_u32(s: &mut [u32], i: usize, v: u32)
     }
 }
 
-// Zeros from end to end.
+pub fn put_u64(s: &mut [u64], i: usize, v: u64)
+    ensures { λ _. ⌜ now (s .exit) ≡ set (now (s .entry)) i v ⌝ }
+{
+    if i < s.len() {
+        s[i] = v;
+    }
+}
+
+// ---- zeros from end to end
+
+pub fn clear_u8(s: &mut [u8])
+    ensures { λ _. ⌜ now (s .exit) ≡ replicate (length (now (s .entry))) 0 ⌝ }
+{
+    let mut i = 0;
+    while i < s.len() {
+        s[i] = 0;
+        i += 1;
+    }
+}
+
+pub fn clear_u16(s: &mut [u16])
+    ensures { λ _. ⌜ now (s .exit) ≡ replicate (length (now (s .entry))) 0 ⌝ }
+{
+    let mut i = 0;
+    while i < s.len() {
+        s[i] = 0;
+        i += 1;
+    }
+}
+
 pub fn clear_u32(s: &mut [u32])
     ensures { λ _. ⌜ now (s .exit) ≡ replicate (length (now (s .entry))) 0 ⌝ }
 {
@@ -46,7 +91,17 @@ pub fn clear_u32(s: &mut [u32])
     }
 }
 
-// Zeros from end to end, whatever the scratch held, NaN and infinities too.
+pub fn clear_u64(s: &mut [u64])
+    ensures { λ _. ⌜ now (s .exit) ≡ replicate (length (now (s .entry))) 0 ⌝ }
+{
+    let mut i = 0;
+    while i < s.len() {
+        s[i] = 0;
+        i += 1;
+    }
+}
+
+// Whatever the scratch held, NaN and infinities too.
 pub fn clear_f64(s: &mut [f64])
     ensures { λ _. ⌜ now (s .exit) ≡ replicate (length (now (s .entry))) zeroF ⌝ }
 {

@@ -630,23 +630,13 @@ fn read_rule_lines(s: &[u8], at: usize, number: usize, pool: &mut [u8], used: us
     }
 }
 
-fn clear_pool(s: &mut [u8])
-    ensures { λ _. ⌜ now (s .exit) ≡ replicate (length (now (s .entry))) 0 ⌝ }
-{
-    let mut i = 0;
-    while i < s.len() {
-        s[i] = 0;
-        i += 1;
-    }
-}
-
 fn has_room(s: &[u8], at: usize, number: usize, used: usize) -> bool
     ensures { λ r. ⌜ r ≡ (roomy (now (s .entry)) at used && leb number 64) ⌝ }
 {
     fields::has_room(s, at, used) && number <= 64
 }
 
-fn no_rules(next: usize) -> RuleSection
+pub fn no_rules(next: usize) -> RuleSection
     ensures { λ r. ⌜ r ≡ record { ok = false; next = next; used = 0; rules = noRules } ⌝ }
 {
     let blank = blank_rule();
@@ -667,13 +657,13 @@ pub fn read_rules(s: &[u8], at: usize, number: usize, pool: &mut [u8], used: usi
     ensures { λ _. ⌜ now (pool .exit) ≡ poolAfter used (rulesAt (now (s .entry)) at number used) (now (pool .entry)) ⌝ }
 {
     if !has_room(s, at, number, used) {
-        clear_pool(pool);
+        lent::clear_u8(pool);
         return no_rules(at);
     }
     let r = read_rule_lines(s, at, number, pool, used);
     if r.ok {
         return r;
     }
-    clear_pool(pool);
+    lent::clear_u8(pool);
     no_rules(r.next)
 }

@@ -10,18 +10,18 @@ use Rattle.rulelines.proofs.read_rules.Tie as tie
 has-room-requires : tie.Need-has-room-requires
 has-room-requires c κs = search needs
 
-clear-pool-requires : tie.Need-clear-pool-requires
-clear-pool-requires c κs = search needs
+clear-u8-requires : tie.Need-clear-u8-requires
+clear-u8-requires c κs = search needs
 
 no-rules-requires : tie.Need-no-rules-requires
 no-rules-requires c κs = search needs
 
 same-length : tie.Need-same-length
-same-length c = c .before .before .before .clear-pool .kept .0
+same-length c = c .before .before .before .clear-u8 .kept .0
 
 returns : tie.Need-returns
 returns c = rw (c .no-rules .ensures) (no-room _ _ _ _ _ _ (c .before .before .before .before .before .before .has-room .ensures) (c
-    .before .before .before .before .before .if1 .taken) (c .before .before .before .clear-pool .ensures))
+    .before .before .before .before .before .if1 .taken) (c .before .before .before .clear-u8 .ensures))
 
 read-rule-lines-requires : tie.Need-read-rule-lines-requires
 read-rule-lines-requires c κs = lines-room _ _ _ _ (c .before .before .has-room .ensures) (c .before .if1 .left)
@@ -33,14 +33,14 @@ returns-2 : tie.Need-returns-2
 returns-2 c = lines-read _ _ _ _ _ (c .before .before .before .before .before .before .has-room .ensures)
     (c .before .before .before .before .before .if1 .left) _ _ (c .before .before .before .read-rule-lines .ensures) (c .if2 .taken)
 
-clear-pool-requires-2 : tie.Need-clear-pool-requires-2
-clear-pool-requires-2 c κs = search needs
+clear-u8-requires-2 : tie.Need-clear-u8-requires-2
+clear-u8-requires-2 c κs = search needs
 
 no-rules-requires-2 : tie.Need-no-rules-requires-2
 no-rules-requires-2 c κs = search needs
 
 same-length-3 : tie.Need-same-length-3
-same-length-3 c = c .before .before .before .clear-pool2 .kept .0 ∙ c .before .before .before .before .before .before .before .before
+same-length-3 c = c .before .before .before .clear-u82 .kept .0 ∙ c .before .before .before .before .before .before .before .before
     .read-rule-lines .kept .1 .1 .1 .0
 
 returns-3 : tie.Need-returns-3
@@ -49,7 +49,7 @@ returns-3 c = rw (c .no-rules2 .ensures) (lines-refused _ _ _ _ _ (c .before .be
     .left) (c .before .before .before .before .before .before .before .before .read-rule-lines .result)
     (c .before .before .before .before .before .before .before .before .read-rule-lines .last .1 .1 .1 .0) _
     (c .before .before .before .before .before .before .before .before .read-rule-lines .ensures)
-    (c .before .before .before .before .before .if2 .left) (c .before .before .before .clear-pool2 .ensures ∙ ap (λ (n : ℕ). replicate n
+    (c .before .before .before .before .before .if2 .left) (c .before .before .before .clear-u82 .ensures ∙ ap (λ (n : ℕ). replicate n
     0) (c .before .before .before .before .before .before .before .before .read-rule-lines .kept .1 .1 .1 .0)))
 
 pub read-rules-spec : {M : Type 1} → statement M
@@ -57,14 +57,14 @@ read-rules-spec =
     tie.close
     (tie.spec
     has-room-requires
-    clear-pool-requires
+    clear-u8-requires
     no-rules-requires
     same-length
     returns
     read-rule-lines-requires
     same-length-2
     returns-2
-    clear-pool-requires-2
+    clear-u8-requires-2
     no-rules-requires-2
     same-length-3
     returns-3)

@@ -1,9 +1,9 @@
--- `celllines::put_u8` meets its contract: past the end a store changes nothing. Assumes nothing.
+-- `lent::put_u8` meets its contract: past the end a store changes nothing. Assumes nothing.
 use mathlib.Core.Path.{sym}
 use lib.Seq.{set-out}
 use borrow.Author.Needs.{needs}
-use Rattle.celllines.proofs.put_u8.Statement.{statement}
-use Rattle.celllines.proofs.put_u8.Tie as tie
+use Rattle.lent.proofs.put_u8.Statement.{statement}
+use Rattle.lent.proofs.put_u8.Tie as tie
 
 slice-write-s : tie.Need-slice-write-s
 slice-write-s c = search needs
