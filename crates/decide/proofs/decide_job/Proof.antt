@@ -1,0 +1,36 @@
+-- `decide::decide_job` meets its contract: the call is lent columns of 1,024, and its answer and columns are printed. Assumes nothing.
+use mathlib.Core.Path.{refl, ap, _∙_}
+use denote.Ref.{now}
+use borrow.Author.Needs.{needs}
+use Rattle.checks.specs.Checked.{cellColumns, jobOf}
+use Rattle.jobtext.specs.Laid.{space}
+use Rattle.put.specs.Laid.{page, pageLength}
+use Rattle.decide.proofs.Reports.{report-printed}
+use Rattle.decide.proofs.decide_job.Statement.{statement}
+use Rattle.decide.proofs.decide_job.Tie as tie
+
+same-length : tie.Need-same-length
+same-length c = search needs
+
+returns : tie.Need-returns
+unfolding space
+returns c =
+    let wrote = c .before .before in
+    let called = wrote .before .before .before .before .before .before .before .before .before .before .before .before .before .before
+    .before .before .before in
+    let a = called .before .before .before .before .before .before .before .before .before .before .before .before .before .before
+    .before .before .before .before .before .before .args in
+    let j = jobOf (cellColumns (now (a .rows)) (now (a .cols)) (now (a .kinds)) (now (a .wraps)) (now (a .nums)) (now (a .ats)) (now
+    (a .lens)))
+    (now (a .region-rows)) (now (a .region-cols)) (now (a .pool)) (a .name) (a .rules) (a .start) in
+    let same = report-printed j (a .limit) _ (called .resolve-conditional-paints .result) _ refl
+    (called .resolve-conditional-paints .ensures .0) (called .resolve-conditional-paints .ensures .1) in
+    (wrote .write-report .ensures .0 ∙ ap (pageLength _) same, wrote .write-report .ensures .1 ∙ ap (page _) same)
+
+-- nothing is asked where it calls; each column is 1,024 long where it is lent, and after the call
+pub decide-job-spec : {M : Type 1} → statement M
+decide-job-spec =
+    tie.close
+    (tie.spec (λ _. refl) (λ _. refl) (λ _. refl) (λ _. refl) (λ _. refl) (λ _. refl) (λ _. refl) (λ _. refl) (λ _ _. tt)
+    (λ c. search needs) (λ c. search needs) (λ c. search needs) (λ c. search needs) (λ c. search needs) (λ c. search needs)
+    (λ c. search needs) (λ _ _. tt) same-length returns)
