@@ -1,16 +1,60 @@
 /* Conditional marks for embossed sheets: the calls for C.
  *
  * Link with libexports.a (`rt staticlib exports`). No call here keeps state, takes memory or stops the program, and all may be
- * made from any thread.
+ * made from any thread, given the stack that wavendiru_whole_job names.
  */
 #ifndef WAVENDIRU_H
 #define WAVENDIRU_H
 
+#include <stddef.h>
 #include <stdint.h>
 
 #ifdef __cplusplus
 extern "C" {
 #endif
+
+/* The most bytes that a job text may have. */
+#define WAVENDIRU_MAX_TEXT 65536
+
+/* The bytes of the longest report that any job can have: a report buffer of this length is always long enough. */
+#define WAVENDIRU_LONGEST_REPORT 42979
+
+/* The bytes of stack that wavendiru_whole_job needs on x86-64. */
+#define WAVENDIRU_STACK 208832
+
+/* The number of a report, the first field of its second line. Behind it stand place, count and actual; S is the job's starting count.
+ * A refusal has no marks. 1, 5 and 6 are refusals of lent columns; no job text has them.
+ */
+enum wavendiru_number {
+    WAVENDIRU_ANSWERED = 0,         /* place 0, the count reached, actual 0 */
+    WAVENDIRU_UNEQUAL_COLUMNS = 1,  /* cell columns, or region columns, differ in length: 0, S, 0 */
+    WAVENDIRU_TOO_MANY = 2,         /* over 1,024 cells, 1,024 regions, 64 rules or 65,536 bytes of texts: 0, S, 0 */
+    WAVENDIRU_BAD_CELL = 3,         /* a cell or region off the grid (or a lent cell that says nothing): its index, S, 0 */
+    WAVENDIRU_NOT_RISING = 4,       /* cells or regions not strictly rising by row, col: index of the later one, S, 0 */
+    WAVENDIRU_BAD_NAME = 5,         /* a name outside the pool: the rule, or 64 for the sheet's name, S, 0 */
+    WAVENDIRU_TOO_SHORT = 6,        /* bar columns or scratch too short: 0, S, 0 */
+    WAVENDIRU_OVER_LIMIT = 7,       /* more evaluations than the limit: 0, the count there, the count that would be over */
+    WAVENDIRU_OVER_COUNTER = 8,     /* more evaluations than a 64-bit counter holds: 0, the count there, 0 */
+    WAVENDIRU_TOO_MANY_MARKS = 9,   /* over 1,024 marks: 0, the count reached, how many marks */
+    WAVENDIRU_LONG_TEXT = 10,       /* a job text over WAVENDIRU_MAX_TEXT bytes: 0, 0, 0 */
+    WAVENDIRU_BAD_LINE = 11         /* a line of the job text is malformed, missing or extra: its number from 1, 0, 0 */
+};
+
+/* A whole job: reads the job text, decides its marks and bars, and writes the report.
+ *
+ * Result: the report's length in bytes, or 0 if the report is longer than report_len. A refused job has a report too, of two lines.
+ * Written: every one of the report_len bytes, the report first and 0 in all after it; where the result is 0, all are 0. A report is ASCII
+ * text, its lines end in LF; one that fills its buffer exactly has no 0 behind it.
+ * Inputs: any bytes and any length of text, any length of report, whatever the report's bytes held.
+ * The caller owes:
+ *   - text_len readable bytes at text, which nothing changes before the call returns;
+ *   - report_len writable bytes at report, which nothing else reads or writes before the call returns;
+ *   - that no byte is in both;
+ *   - lengths below 2^63. A pointer whose length is 0 is not followed, and may be null;
+ *   - 208,832 bytes of free stack (measured by tests/c/stack, for x86-64; WAVENDIRU_STACK). The call does not recurse. With less it dies
+ *     at the guard page below the stack, so the stack needs to have one.
+ */
+size_t wavendiru_whole_job(const uint8_t *text, size_t text_len, uint8_t *report, size_t report_len);
 
 /* The place of value between minimum and maximum, in parts per million.
  *

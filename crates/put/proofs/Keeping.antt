@@ -46,6 +46,17 @@ kept-whole n end h = rw (le-leb end n h)
 pub kept-none : (n end : ℕ) → n < end → 0 ≡ keptLength n end
 kept-none n end h = rw (lt-leb end n h)
 
+pub kept-most : (n end : ℕ) → keptLength n end ≤ n
+kept-most n end = go (leb end n) refl
+  where
+    go : (x : Bool) → leb end n ≡ x → keptLength n end ≤ n
+    go true e = rw e (leb-true _ _ e)
+    go false e = rw e (omega arith)
+
+pub page-length-most : (n : ℕ) (ts : List ℕ) → pageLength n ts ≤ n
+unfolding pageLength
+page-length-most n ts = kept-most n (length ts)
+
 -- a text laid from the start, and kept: a page of it
 pub record Page (n : ℕ) (ts f : List ℕ) (r : ℕ) : Type 0 where
   pub length : r ≡ pageLength n ts
