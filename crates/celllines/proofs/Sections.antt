@@ -1,20 +1,20 @@
 -- Lines of cells one after the other: what is left from a line on is what the whole leaves (`Rest`), and a law for each turn of the loop.
 -- Assumes nothing.
-use Prim.Native.Nat.{ℕ, zero, suc, _+_, _-_, _*_, _≤_, _<_}
+use Prim.Native.Nat.{ℕ, suc, _+_, _-_, _≤_, _<_}
 use mathlib.Core.Path.{_≡_, refl, sym, ap, _∙_, subst}
-use mathlib.Core.Bool.{Bool, true, false, not}
+use mathlib.Core.Bool.{true, false, not}
 use mathlib.Core.List.{List, [], _∷_, _++_}
 use native.Mathlib.Omega.{arith}
-use native.Mathlib.Numerals.{add-one}
 use lib.ListN.{length, set, length-set, length-append}
 use lib.Seq.{sets, length-sets}
 use Rattle.model.specs.Sheet.{CellColumns}
-use Rattle.grammar.specs.Gram.{Got, Gram, Exactly}
+use Rattle.grammar.specs.Gram.{Got}
 use Rattle.grammar.specs.Gram.Got.{got, bad}
 use Rattle.grammar.specs.Parts.{then, timesP}
+use Rattle.grammar.proofs.Times.{times-next}
 use Rattle.fields.specs.Room.{Room}
 use Rattle.fields.proofs.Room.{room-past}
-use Rattle.jobtext.specs.Written.{Value, CellLine}
+use Rattle.jobtext.specs.Written.{CellLine}
 use Rattle.jobtext.specs.Text.{cellLine}
 use Rattle.jobtext.specs.Laid.{valueBytes, cellBytes, kindOf, numOf, atOf, lenOf, atsFrom, columnsFrom}
 use Rattle.jobtext.proofs.Text.{cell-exact}
@@ -22,7 +22,7 @@ use Rattle.jobtext.proofs.Lengths.{cell-length}
 use Rattle.celllines.specs.declared.ReadCell.{ReadCell}
 use Rattle.celllines.specs.declared.Section.{Section}
 use Rattle.celllines.specs.Lines.{IsCell, cellPooled}
-use Rattle.celllines.specs.Columns.{columns, storedCell, overlaid, Left, leftOf, IsLeft}
+use Rattle.celllines.specs.Columns.{columns, storedCell, Left, leftOf, IsLeft}
 
 pub columns-eq : {a b c d e f g a′ b′ c′ d′ e′ f′ g′ : List ℕ} → a ≡ a′ → b ≡ b′ → c ≡ c′ → d ≡ d′ → e ≡ e′ → f ≡ f′ → g ≡ g′
     → columns a b c d e f g ≡ columns a′ b′ c′ d′ e′ f′ g′
@@ -76,11 +76,6 @@ module _ (i u : ℕ) (c : CellLine) (d : CellColumns) (pool : List ℕ) where
       let y : i + 1 ≡ suc i = omega arith in
       rw (z, y, sets-append pool u b (cellBytes cs))
   left-next (bad p) = refl
-
-times-next : {A : Type 0} (n i : ℕ) (p : List ℕ → ℕ → Got A) (s : List ℕ) (q : ℕ) → i < n
-    → timesP (n - i) p s q ≡ then (p s q) (λ a k. then (timesP (n - (i + 1)) p s k) (λ l e. got (a ∷ l) e))
-unfolding timesP
-times-next n i p s q h = let z : n - i ≡ suc (n - (i + 1)) = omega arith in rw z
 
 module _ {s : List ℕ} {at n used : ℕ} {d₀ : CellColumns} {pool₀ : List ℕ} {d : CellColumns} {pool : List ℕ} {q u i : ℕ}
     (w : Rest s at n used d₀ pool₀ d pool q u i) where

@@ -1,12 +1,11 @@
 -- The grammar of a value, taken by its letter, and the answers of the fields behind it. Assumes nothing.
-use Prim.Native.Nat.{ℕ, _+_, _*_, _≤_, _<_}
-use mathlib.Core.Path.{_≡_, refl, sym, ap, _∙_}
-use mathlib.Core.Logic.{_⊎_, inl, inr}
-use mathlib.Core.Bool.{Bool, true, false, cond}
-use mathlib.Core.List.{List, [], _∷_, _++_}
+use Prim.Native.Nat.{ℕ, _+_}
+use mathlib.Core.Path.{_≡_, refl, _∙_}
+use mathlib.Core.Logic.{inl, inr}
+use mathlib.Core.Bool.{Bool, true, false}
+use mathlib.Core.List.{List, [], _∷_}
 use native.Mathlib.Omega.{arith}
 use lib.ListN.{length, drop}
-use lib.Seq.{sets}
 use Rattle.grammar.specs.Gram.{Got}
 use Rattle.grammar.specs.Gram.Got.{got, bad}
 use Rattle.grammar.specs.Parts.{then, bytes, byteP, wordP, ended, either}
@@ -15,7 +14,7 @@ use Rattle.fields.specs.declared.Field.{Field}
 use Rattle.fields.specs.Field.{fieldOf, wordOf, eitherOf, textOf, pooled}
 use Rattle.fields.proofs.Laws.{word-got, word-bad, word-byte}
 use Rattle.jobtext.specs.Written.{Value}
-use Rattle.jobtext.specs.Fields.{toValue, bitsLine, value}
+use Rattle.jobtext.specs.Fields.{toValue, value}
 use Rattle.jobtext.specs.Laid.{valueBytes, kindOf, numOf, atOf, lenOf}
 use Rattle.celllines.specs.declared.ReadValue.{ReadValue}
 use Rattle.celllines.specs.Lines.{IsValue, valuePooled}

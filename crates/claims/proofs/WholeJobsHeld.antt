@@ -9,11 +9,11 @@ use mathlib.Core.Option.{Option, none, some}
 use lib.Dec.{leb, ltb, eqb}
 use lib.ListN.{length, take, replicate}
 use lib.Seq.{take-append-seam}
-use borrow.Author.Tests.{le-leb, ltb-true}
+use borrow.Author.Tests.{le-leb, le-ltb, ltb-true}
 use Rattle.grammar.specs.Gram.{Got, lineOf}
 use Rattle.grammar.specs.Gram.Got.{got, bad}
 use Rattle.model.specs.Answer.{Summary, answered}
-use Rattle.model.specs.Job.{Job, Lengths, markSpace, cellCount, regionCount, tooMany, refuseIf, firstOf, malformed, spaceShort, runOf, result}
+use Rattle.model.specs.Job.{Job, markSpace, cellCount, regionCount, refuseIf, spaceShort}
 use Rattle.laws.specs.Demands.{WellFormed, Roomy, reached, markCount}
 use Rattle.laws.proofs.DemandThree.{demand-three}
 use Rattle.jobtext.specs.Written.{JobText}
@@ -23,6 +23,7 @@ use Rattle.jobtext.specs.Laid.{laid, space, decided}
 use Rattle.jobtext.proofs.Reading.{Readable, read-accepted, text-read, job-text-one, read-too-long}
 use Rattle.put.specs.Laid.{page, pageLength}
 use Rattle.reporttext.specs.Longest.{longest}
+use Rattle.reporttext.proofs.Jobs.{well-formed-few}
 use Rattle.whole.proofs.Longest.{whole-longest}
 use Rattle.claims.specs.WholeJobs.{NothingAskedOfTexts, reportOn, Printed, AlwaysWhole, ReadExactly, OneText, TooLong, LimitRaised}
 
@@ -89,24 +90,11 @@ too-long s = (long-read s, read-too-long s)
 -- ---- the limit
 
 -- a well-formed job has room in space for 1,024 of each
-none-first : (a b c d : Bool) → a || b || c || d ≡ false → (a ≡ false) × (b ≡ false)
-none-first false false c d h = (refl, refl)
-none-first false true c d h = absurd (let no : _≡_ {A = ℕ} 0 1 = cc in omega arith)
-none-first true b c d h = absurd (let no : _≡_ {A = ℕ} 0 1 = cc in omega arith)
-
-second-none : (a : Option Summary) (met : Bool) (s : Summary) (cs : List (Option Summary))
-    → firstOf (a ∷ cond met (some s) none ∷ cs) ≡ none → met ≡ false
-unfolding firstOf
-second-none none false s cs h = refl
-second-none none true s cs h = absurd (let no : _≡_ {A = ℕ} 0 1 = cc in omega arith)
-second-none (some x) met s cs h = absurd (let no : _≡_ {A = ℕ} 0 1 = cc in omega arith)
-
 roomy : (j : Job) → WellFormed j → Roomy j space
-unfolding malformed refuseIf tooMany spaceShort space
+unfolding refuseIf spaceShort space
 roomy j h =
-    let few = none-first (ltb 1024 (cellCount j)) (ltb 1024 (regionCount j)) (ltb 64 (j .rules .number)) (ltb 65_536 (length (j .pool)))
-    (second-none _ (tooMany j) _ _ h) in
-    rw (few .0, few .1)
+    let few = well-formed-few j h in
+    rw (le-ltb 1024 (regionCount j) (few .regions), le-ltb 1024 (cellCount j) (few .cells))
 
 marks-room : markSpace space ≡ 1024
 unfolding markSpace space

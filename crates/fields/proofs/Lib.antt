@@ -1,4 +1,5 @@
 pub mod Laws
+pub mod Hexadecimals
 pub mod Pooling
 pub mod Room
 pub mod Bounds

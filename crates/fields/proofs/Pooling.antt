@@ -1,19 +1,18 @@
 -- Texts stored in a pool: the bytes of pairs of digits are those that the grammar reads, and storing them one by one. Assumes nothing.
 use Prim.Native.Nat.{ℕ, zero, suc, _+_, _-_, _*_, _/_, _%_, _≤_, _<_}
 use mathlib.Core.Path.{_≡_, refl, sym, ap, _∙_}
-use mathlib.Core.Bool.{Bool, true, false, cond, _&&_}
+use mathlib.Core.Bool.{true, false}
 use mathlib.Core.List.{List, [], _∷_, _++_, append-assoc}
 use native.Mathlib.Nat.{not-suc-le-zero}
 use native.Mathlib.Omega.{arith}
-use lib.Dec.{eqb}
 use lib.ListN.{length, drop, getD, set, length-set, length-append, length-drop}
 use lib.Seq.{sets, set-out}
 use Rattle.fields.specs.declared.Field.{Field}
 use Rattle.fields.specs.Field.{textOf, pooled, pairBytes}
 use Rattle.fields.proofs.Laws.{clash}
-use Rattle.grammar.specs.Gram.{Got, Gram, Exactly}
+use Rattle.grammar.specs.Gram.{Got}
 use Rattle.grammar.specs.Gram.Got.{got, bad}
-use Rattle.grammar.specs.Numbers.{hexDigit, digitValue, isHex, pairsText, areBytes, pairsFrom}
+use Rattle.grammar.specs.Numbers.{hexDigit, digitValue, pairsText, areBytes, pairsFrom}
 use Rattle.grammar.proofs.Places.{past, at-head}
 use Rattle.grammar.proofs.Hexadecimals.{value-digit}
 use Rattle.grammar.proofs.Pairs.{pairs-got}

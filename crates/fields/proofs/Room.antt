@@ -1,14 +1,14 @@
 -- Reading on keeps the bounds, where what goes to the pool is no longer than the text that it was read from. Assumes nothing.
-use Prim.Native.Nat.{ℕ, _+_, _*_, _≤_, _<_}
-use mathlib.Core.Path.{_≡_, refl, sym, ap, _∙_}
+use Prim.Native.Nat.{ℕ, _+_, _≤_, _<_}
+use mathlib.Core.Path.{_≡_, refl}
 use mathlib.Core.Bool.{Bool, true, false, _&&_}
-use mathlib.Core.List.{List, [], _∷_, _++_}
+use mathlib.Core.List.{List}
 use native.Mathlib.Omega.{arith}
 use lib.Dec.{leb}
 use lib.ListN.{length}
 use borrow.Author.Tests.{le-leb, lt-leb, leb-true}
-use Rattle.grammar.specs.Gram.{Got, Gram, Exactly}
-use Rattle.grammar.specs.Gram.Got.{got, bad}
+use Rattle.grammar.specs.Gram.{Gram, Exactly}
+use Rattle.grammar.specs.Gram.Got.{got}
 use Rattle.grammar.proofs.Places.{forward, inside}
 use Rattle.fields.specs.Room.{Room, roomy}
 

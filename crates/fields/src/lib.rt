@@ -1,6 +1,7 @@
 // Readers of the fields of a job text. Each takes the text and a place, and gives the value and the place after it, or the place
 // at which the text cannot be read on.
 ghost use Prim.Native.Nat.{_+_, _*_, _%_, _≤_};
+ghost use mathlib.Core.Bool.{true, false};
 ghost use mathlib.Core.List.{[], _∷_};
 ghost use mathlib.Core.Path.{_≡_};
 ghost use lib.ListN.{length, drop};
@@ -16,6 +17,26 @@ pub struct Field {
     pub next: usize,
 }
 
+fn found(value: u64, next: usize) -> Field
+    ensures { λ r. ⌜ r ≡ record { ok = true; value = value; next = next } ⌝ }
+{
+    Field {
+        ok: true,
+        value,
+        next,
+    }
+}
+
+fn no_field(next: usize) -> Field
+    ensures { λ r. ⌜ r ≡ record { ok = false; value = 0; next = next } ⌝ }
+{
+    Field {
+        ok: false,
+        value: 0,
+        next,
+    }
+}
+
 fn wide(x: u8) -> u64
     ensures { λ r. ⌜ r ≡ x ⌝ }
 {
@@ -28,24 +49,12 @@ pub fn byte(s: &[u8], at: usize, b: u8) -> Field
     ensures { λ r. ⌜ r ≡ wordOf (byteP b (now (s .entry)) at) ⌝ }
 {
     if s.len() <= at {
-        return Field {
-            ok: false,
-            value: 0,
-            next: at,
-        };
+        return no_field(at);
     }
     if s[at] == b {
-        return Field {
-            ok: true,
-            value: 0,
-            next: at + 1,
-        };
+        return found(0, at + 1);
     }
-    Field {
-        ok: false,
-        value: 0,
-        next: at,
-    }
+    no_field(at)
 }
 
 pub fn word(s: &[u8], at: usize, w: &[u8]) -> Field
@@ -55,27 +64,15 @@ pub fn word(s: &[u8], at: usize, w: &[u8]) -> Field
     let mut q = at;
     while i < w.len() {
         if s.len() <= q {
-            return Field {
-                ok: false,
-                value: 0,
-                next: q,
-            };
+            return no_field(q);
         }
         if s[q] != w[i] {
-            return Field {
-                ok: false,
-                value: 0,
-                next: q,
-            };
+            return no_field(q);
         }
         q += 1;
         i += 1;
     }
-    Field {
-        ok: true,
-        value: 0,
-        next: q,
-    }
+    found(0, q)
 }
 
 // One of two words.
@@ -88,11 +85,7 @@ pub fn either_word(s: &[u8], at: usize, w: &[u8], v: &[u8]) -> Field
     }
     let second = word(s, at, v);
     if second.ok {
-        return Field {
-            ok: true,
-            value: 1,
-            next: second.next,
-        };
+        return found(1, second.next);
     }
     second
 }
@@ -108,42 +101,22 @@ fn more_digits(s: &[u8], at: usize, limit: u64, acc: u64) -> Field
     while i < s.len() {
         let d = s[i];
         if d < 48 {
-            return Field {
-                ok: true,
-                value: n,
-                next: i,
-            };
+            return found(n, i);
         }
         if 57 < d {
-            return Field {
-                ok: true,
-                value: n,
-                next: i,
-            };
+            return found(n, i);
         }
         let v = wide(d - 48);
         if limit / 10 < n {
-            return Field {
-                ok: false,
-                value: 0,
-                next: i,
-            };
+            return no_field(i);
         }
         if limit - n * 10 < v {
-            return Field {
-                ok: false,
-                value: 0,
-                next: i,
-            };
+            return no_field(i);
         }
         n = n * 10 + v;
         i += 1;
     }
-    Field {
-        ok: true,
-        value: n,
-        next: i,
-    }
+    found(n, i)
 }
 
 // A number without a leading zero, at most limit, up to the first byte that is no digit.
@@ -151,41 +124,21 @@ fn digits(s: &[u8], at: usize, limit: u64) -> Field
     ensures { λ r. ⌜ r ≡ fieldOf (decimalAt limit at (drop at (now (s .entry)))) ⌝ }
 {
     if s.len() <= at {
-        return Field {
-            ok: false,
-            value: 0,
-            next: at,
-        };
+        return no_field(at);
     }
     let first = s[at];
     if first == 48 {
-        return Field {
-            ok: true,
-            value: 0,
-            next: at + 1,
-        };
+        return found(0, at + 1);
     }
     if first < 48 {
-        return Field {
-            ok: false,
-            value: 0,
-            next: at,
-        };
+        return no_field(at);
     }
     if 57 < first {
-        return Field {
-            ok: false,
-            value: 0,
-            next: at,
-        };
+        return no_field(at);
     }
     let v = wide(first - 48);
     if limit < v {
-        return Field {
-            ok: false,
-            value: 0,
-            next: at,
-        };
+        return no_field(at);
     }
     more_digits(s, at + 1, limit, v)
 }
@@ -201,11 +154,7 @@ pub fn decimal(s: &[u8], at: usize, limit: u64, end: u8) -> Field
     if !e.ok {
         return e;
     }
-    Field {
-        ok: true,
-        value: d.value,
-        next: e.next,
-    }
+    found(d.value, e.next)
 }
 
 // ---- hexadecimal digits
@@ -238,29 +187,17 @@ fn hex_digits(s: &[u8], at: usize, number: usize) -> Field
     let mut k = number;
     while 0 < k {
         if s.len() <= q {
-            return Field {
-                ok: false,
-                value: 0,
-                next: q,
-            };
+            return no_field(q);
         }
         let d = digit_value(s[q]);
         if 16 <= d {
-            return Field {
-                ok: false,
-                value: 0,
-                next: q,
-            };
+            return no_field(q);
         }
         acc = acc * 16 + wide(d);
         q += 1;
         k -= 1;
     }
-    Field {
-        ok: true,
-        value: acc,
-        next: q,
-    }
+    found(acc, q)
 }
 
 // The two digits of a colour's channel.
@@ -282,11 +219,7 @@ pub fn bits(s: &[u8], at: usize, end: u8) -> Field
     if !e.ok {
         return e;
     }
-    Field {
-        ok: true,
-        value: d.value,
-        next: e.next,
-    }
+    found(d.value, e.next)
 }
 
 // ---- texts
@@ -299,41 +232,21 @@ fn pairs(s: &[u8], at: usize, end: u8) -> Field
     let mut q = at;
     while q < s.len() {
         if s[q] == end {
-            return Field {
-                ok: true,
-                value: n,
-                next: q + 1,
-            };
+            return found(n, q + 1);
         }
         if s.len() - q < 2 {
-            return Field {
-                ok: false,
-                value: 0,
-                next: q,
-            };
+            return no_field(q);
         }
         if 16 <= digit_value(s[q]) {
-            return Field {
-                ok: false,
-                value: 0,
-                next: q,
-            };
+            return no_field(q);
         }
         if 16 <= digit_value(s[q + 1]) {
-            return Field {
-                ok: false,
-                value: 0,
-                next: q,
-            };
+            return no_field(q);
         }
         n += 1;
         q += 2;
     }
-    Field {
-        ok: false,
-        value: 0,
-        next: q,
-    }
+    no_field(q)
 }
 
 fn pair_byte(hi: u8, lo: u8) -> u8

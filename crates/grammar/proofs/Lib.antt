@@ -1,5 +1,6 @@
 pub mod Places
 pub mod Parts
+pub mod Times
 pub mod Choices
 pub mod Decimals
 pub mod Hexadecimals

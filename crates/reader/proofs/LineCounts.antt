@@ -60,17 +60,17 @@ pub record Counted (s : List ℕ) (at end line i : ℕ) : Type 0 where
   pub small : line ≤ i + 1
 
 module _ (s : List ℕ) (at end : ℕ) where
-  pub counted-within : at < length s → end ≡ at → Counted s at end 1 0
-  counted-within h e =
-      record { below = omega arith; inside = omega arith; same = ap (lineOf s) e; is = line-first s; small = omega arith }
+  pub counted-within : {line : ℕ} → line ≡ 1 → at < length s → end ≡ at → Counted s at end line 0
+  counted-within l h e =
+      record { below = omega arith; inside = omega arith; same = ap (lineOf s) e; is = l ∙ line-first s; small = omega arith }
 
-  pub counted-past : length s ≤ at → end ≡ length s → Counted s at end 1 0
-  counted-past h e =
+  pub counted-past : {line : ℕ} → line ≡ 1 → length s ≤ at → end ≡ length s → Counted s at end line 0
+  counted-past l h e =
       record {
         below = omega arith;
         inside = omega arith;
         same = ap (lineOf s) e ∙ line-past s at h;
-        is = line-first s;
+        is = l ∙ line-first s;
         small = omega arith;
       }
 

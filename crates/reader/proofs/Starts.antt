@@ -27,14 +27,14 @@ use Rattle.reader.specs.Bodies.{noStart, started, startOf, startIf, Name
 -- ---- three tests, one after the other, of which the first two came to `o`
 
 module _ (x y z : Bool) {o : Bool} where
-  pub over-first : x ≡ true → o ≡ x → o ≡ (x || y || z)
-  over-first a b = b ∙ rw a
+  pub over-first : x ≡ true → o ≡ true → o ≡ (x || y || z)
+  over-first a c = rw (a, c)
 
   pub over-second : x ≡ false → o ≡ y → o ≡ true → o ≡ (x || y || z)
   over-second a b c = let d = sym b ∙ c in rw (a, d, c)
 
-  pub not-first : x ≡ true → o ≡ x → o ≡ false → z ≡ (x || y || z)
-  not-first a b c = clash true false refl refl (sym a ∙ (sym b ∙ c))
+  pub not-first : {b : Bool} → o ≡ b → b ≡ true → o ≡ false → z ≡ (x || y || z)
+  not-first d b c = clash true false refl refl (sym b ∙ (sym d ∙ c))
 
   pub not-second : x ≡ false → o ≡ y → o ≡ false → z ≡ (x || y || z)
   not-second a b c = let d = sym b ∙ c in rw (a, d)

@@ -124,19 +124,19 @@ fn read_tail(
     regions: usize,
     rules: usize,
     used: usize,
-    region_rows: &mut [u32],
-    region_cols: &mut [u16],
+    regionrows: &mut [u32],
+    regioncols: &mut [u16],
     pool: &mut [u8],
 ) -> RuleSection
     requires { ⌜ Room (now s) at used × (rules ≤ 64) ⌝ }
-    ensures { λ r. ⌜ IsTail (tail regions rules .parse (now (s .entry)) at) used (now («region_rows» .entry))
-        (now («region_cols» .entry)) (now (pool .entry)) r (now («region_rows» .exit)) (now («region_cols» .exit)) (now (pool .exit)) ⌝ }
+    ensures { λ r. ⌜ IsTail (tail regions rules .parse (now (s .entry)) at) used (now (regionrows .entry))
+        (now (regioncols .entry)) (now (pool .entry)) r (now (regionrows .exit)) (now (regioncols .exit)) (now (pool .exit)) ⌝ }
 {
     let names = fields::word(s, at, b"row col\n");
     if !names.ok {
         return no_rules(names.next);
     }
-    let section = regionlines::read_regions(s, names.next, regions, region_rows, region_cols);
+    let section = regionlines::read_regions(s, names.next, regions, regionrows, regioncols);
     if !section.ok {
         return no_rules(section.next);
     }
@@ -166,16 +166,16 @@ fn read_body(
     nums: &mut [u64],
     ats: &mut [u32],
     lens: &mut [u32],
-    region_rows: &mut [u32],
-    region_cols: &mut [u16],
+    regionrows: &mut [u32],
+    regioncols: &mut [u16],
     pool: &mut [u8],
 ) -> RuleSection
     requires { ⌜ Room (now s) at used × (rules ≤ 64) ⌝ }
     ensures { λ r. ⌜ IsBody (bodyOf cells regions rules .parse (now (s .entry)) at) used (held (columns (now (rows .entry)) (now
         (cols .entry)) (now (kinds .entry)) (now (wraps .entry)) (now (nums .entry)) (now
-        (ats .entry)) (now (lens .entry))) (now («region_rows» .entry)) (now («region_cols» .entry)) (now (pool .entry))) r (held
+        (ats .entry)) (now (lens .entry))) (now (regionrows .entry)) (now (regioncols .entry)) (now (pool .entry))) r (held
         (columns (now (rows .exit)) (now (cols .exit)) (now (kinds .exit)) (now (wraps .exit)) (now (nums .exit)) (now
-        (ats .exit)) (now (lens .exit))) (now («region_rows» .exit)) (now («region_cols» .exit)) (now (pool .exit))) ⌝ }
+        (ats .exit)) (now (lens .exit))) (now (regionrows .exit)) (now (regioncols .exit)) (now (pool .exit))) ⌝ }
 {
     let names = fields::word(s, at, b"row col wraps value\n");
     if !names.ok {
@@ -204,8 +204,8 @@ fn read_body(
         regions,
         rules,
         section.used,
-        region_rows,
-        region_cols,
+        regionrows,
+        regioncols,
         pool,
     )
 }
@@ -268,16 +268,16 @@ fn read_text(
     nums: &mut [u64],
     ats: &mut [u32],
     lens: &mut [u32],
-    region_rows: &mut [u32],
-    region_cols: &mut [u16],
+    regionrows: &mut [u32],
+    regioncols: &mut [u16],
     pool: &mut [u8],
 ) -> ReadJob
     ensures { λ r. ⌜ r ≡ readJob (read (now (s .entry))) ⌝ }
     ensures { λ _. ⌜ Left (read (now (s .entry))) (held (columns (now (rows .entry)) (now (cols .entry)) (now (kinds .entry)) (now
         (wraps .entry)) (now (nums .entry)) (now
-        (ats .entry)) (now (lens .entry))) (now («region_rows» .entry)) (now («region_cols» .entry)) (now (pool .entry))) (held (columns
+        (ats .entry)) (now (lens .entry))) (now (regionrows .entry)) (now (regioncols .entry)) (now (pool .entry))) (held (columns
         (now (rows .exit)) (now (cols .exit)) (now (kinds .exit)) (now (wraps .exit)) (now (nums .exit)) (now
-        (ats .exit)) (now (lens .exit))) (now («region_rows» .exit)) (now («region_cols» .exit)) (now (pool .exit))) ⌝ }
+        (ats .exit)) (now (lens .exit))) (now (regionrows .exit)) (now (regioncols .exit)) (now (pool .exit))) ⌝ }
 {
     let start = read_start(s, pool);
     if start.number != 0 {
@@ -297,8 +297,8 @@ fn read_text(
         nums,
         ats,
         lens,
-        region_rows,
-        region_cols,
+        regionrows,
+        regioncols,
         pool,
     );
     finish(s, start, body)
@@ -315,16 +315,16 @@ pub fn read_job(
     nums: &mut [u64],
     ats: &mut [u32],
     lens: &mut [u32],
-    region_rows: &mut [u32],
-    region_cols: &mut [u16],
+    regionrows: &mut [u32],
+    regioncols: &mut [u16],
     pool: &mut [u8],
 ) -> ReadJob
     ensures { λ r. ⌜ r ≡ readJob (read (now (s .entry))) ⌝ }
     ensures { λ _. ⌜ held (columns (now (rows .exit)) (now (cols .exit)) (now (kinds .exit)) (now (wraps .exit)) (now (nums .exit)) (now
-        (ats .exit)) (now (lens .exit))) (now («region_rows» .exit)) (now («region_cols» .exit)) (now (pool .exit))
+        (ats .exit)) (now (lens .exit))) (now (regionrows .exit)) (now (regioncols .exit)) (now (pool .exit))
         ≡ heldAfter (read (now (s .entry))) (held (columns (now (rows .entry)) (now (cols .entry)) (now (kinds .entry)) (now
-        (wraps .entry)) (now (nums .entry)) (now (ats .entry)) (now (lens .entry))) (now («region_rows» .entry)) (now
-        («region_cols» .entry)) (now (pool .entry))) ⌝ }
+        (wraps .entry)) (now (nums .entry)) (now (ats .entry)) (now (lens .entry))) (now (regionrows .entry)) (now
+        (regioncols .entry)) (now (pool .entry))) ⌝ }
 {
     let job = read_text(
         s,
@@ -335,14 +335,14 @@ pub fn read_job(
         nums,
         ats,
         lens,
-        region_rows,
-        region_cols,
+        regionrows,
+        regioncols,
         pool,
     );
     if job.number != 0 {
         clear_cells(rows, cols, kinds, wraps, nums, ats, lens, pool);
-        lent::clear_u32(region_rows);
-        lent::clear_u16(region_cols);
+        lent::clear_u32(regionrows);
+        lent::clear_u16(regioncols);
     }
     job
 }

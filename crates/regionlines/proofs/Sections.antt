@@ -10,6 +10,7 @@ use Rattle.model.specs.declared.CellCoordinate.{CellCoordinate}
 use Rattle.grammar.specs.Gram.{Got}
 use Rattle.grammar.specs.Gram.Got.{got, bad}
 use Rattle.grammar.specs.Parts.{then, timesP}
+use Rattle.grammar.proofs.Times.{times-next}
 use Rattle.fields.proofs.Laws.{clash}
 use Rattle.jobtext.specs.Text.{regionLine}
 use Rattle.regionlines.specs.declared.ReadRegion.{ReadRegion}
@@ -27,11 +28,6 @@ pub rest-begun : (s : List ℕ) (at n : ℕ) (rows cols : List ℕ) → Rest s a
 rest-begun s at n rows cols =
     let z : n - 0 ≡ n = omega arith in
     record { on = λ r rows′ cols′ x. rw z at x; rows-long = refl; cols-long = refl }
-
-times-next : {A : Type 0} (n i : ℕ) (p : List ℕ → ℕ → Got A) (s : List ℕ) (q : ℕ) → i < n
-    → timesP (n - i) p s q ≡ then (p s q) (λ a k. then (timesP (n - (i + 1)) p s k) (λ l e. got (a ∷ l) e))
-unfolding timesP
-times-next n i p s q h = let z : n - i ≡ suc (n - (i + 1)) = omega arith in rw z
 
 -- a line that was read, and the lines after it
 are-next : (i : ℕ) (c : CellCoordinate) (rows cols : List ℕ) (r : RegionSection) (rows′ cols′ : List ℕ) (g : Got (List CellCoordinate))

@@ -94,11 +94,17 @@ second-none none false s cs h = refl
 second-none none true s cs h = absurd (let no : _≡_ {A = ℕ} 0 1 = cc in omega arith)
 second-none (some x) met s cs h = absurd (let no : _≡_ {A = ℕ} 0 1 = cc in omega arith)
 
-none-middle : (a b c d : Bool) → a || b || c || d ≡ false → (b ≡ false) × (c ≡ false)
-none-middle false false false d h = (refl, refl)
-none-middle false false true d h = absurd (let no : _≡_ {A = ℕ} 0 1 = cc in omega arith)
-none-middle false true c d h = absurd (let no : _≡_ {A = ℕ} 0 1 = cc in omega arith)
-none-middle true b c d h = absurd (let no : _≡_ {A = ℕ} 0 1 = cc in omega arith)
+none-over : (a b c d : Bool) → a || b || c || d ≡ false → (a ≡ false) × (b ≡ false) × (c ≡ false)
+none-over false false false d h = (refl, refl, refl)
+none-over false false true d h = absurd (let no : _≡_ {A = ℕ} 0 1 = cc in omega arith)
+none-over false true c d h = absurd (let no : _≡_ {A = ℕ} 0 1 = cc in omega arith)
+none-over true b c d h = absurd (let no : _≡_ {A = ℕ} 0 1 = cc in omega arith)
+
+-- the counts of a job that check 2 lets pass
+pub record Few (j : Job) : Type 0 where
+  pub cells : cellCount j ≤ 1024
+  pub regions : regionCount j ≤ 1024
+  pub rules : j .rules .number ≤ 64
 
 -- the marks, states and numbers of a run that a report prints
 pub record SmallJob (r : Run) : Type 0 where
@@ -106,20 +112,24 @@ pub record SmallJob (r : Run) : Type 0 where
   pub states : length (r .states) ≤ 1024
 
 module _ (j : Job) (wellFormed : malformed j ≡ none) where
-  few : (ltb 1024 (regionCount j) ≡ false) × (ltb 64 (j .rules .number) ≡ false)
+  pub well-formed-few : Few j
   unfolding malformed refuseIf tooMany
-  few =
-      none-middle (ltb 1024 (cellCount j)) (ltb 1024 (regionCount j)) (ltb 64 (j .rules .number)) (ltb 65_536 (length (j .pool)))
-      (second-none _ (tooMany j) _ _ wellFormed)
+  well-formed-few =
+      let under = none-over (ltb 1024 (cellCount j)) (ltb 1024 (regionCount j)) (ltb 64 (j .rules .number)) (ltb 65_536 (length (j .pool)))
+      (second-none _ (tooMany j) _ _ wellFormed) in
+      record {
+        cells = ltb-false 1024 (cellCount j) (under .0);
+        regions = ltb-false 1024 (regionCount j) (under .1);
+        rules = ltb-false 64 (j .rules .number) (under .2);
+      }
 
   pub small-job : SmallJob (runOf j)
   unfolding runOf sheetOf rulesOf
   small-job =
-      let regions : regionCount j ≤ 1024 = ltb-false 1024 (regionCount j) (few .0) in
-      let number : j .rules .number ≤ 64 = ltb-false 64 (j .rules .number) (few .1) in
+      let few = well-formed-few in
       let n : length (sheetOf j .regions) ≡ regionCount j = regions-length (j .regionRows) (j .regionCols) 0 (regionCount j) in
-      let rules : length (rulesOf j) ≤ 64 = omega (arith, length-take (j .rules .number) (j .rules .records)) in
-      let r = small-run 1024 (sheetOf j) (omega arith) (rulesOf j) rules in
+      let rules : length (rulesOf j) ≤ 64 = omega (arith, few .rules, length-take (j .rules .number) (j .rules .records)) in
+      let r = small-run 1024 (sheetOf j) (omega (arith, few .regions)) (rulesOf j) rules in
       record {
         run = record {
           marks = r .marks;
@@ -128,5 +138,5 @@ module _ (j : Job) (wellFormed : malformed j ≡ none) where
           deferred = omega (arith, r .deferred);
           simplified = omega (arith, r .simplified);
         };
-        states = omega (arith, run-states (sheetOf j) (rulesOf j));
+        states = omega (arith, few .regions, run-states (sheetOf j) (rulesOf j));
       }

@@ -1,7 +1,7 @@
 -- The grammar of a rule's word, taken word by word, and the answers of its reader. Assumes nothing.
-use Prim.Native.Nat.{ℕ, _+_}
-use mathlib.Core.Path.{_≡_, refl, sym, ap, _∙_}
-use mathlib.Core.Logic.{_⊎_, inl, inr}
+use Prim.Native.Nat.{ℕ}
+use mathlib.Core.Path.{_≡_, refl}
+use mathlib.Core.Logic.{inl, inr}
 use mathlib.Core.Bool.{Bool, true, false, not}
 use mathlib.Core.List.{List, [], _∷_}
 use Rattle.model.specs.declared.Rgb.{Rgb}
@@ -17,20 +17,9 @@ use Rattle.fields.proofs.Room.{room-on}
 use Rattle.jobtext.specs.Written.{Kind}
 use Rattle.jobtext.specs.Rules.{cellIsT, cellIs, scale2, scale3, bar, rankT, rank, mean, same, exprT, expr, toKind, kind}
 use Rattle.jobtext.specs.Laid.{kindBytes}
-use Rattle.rulelines.specs.declared.ReadKind.{ReadKind}
+use Rattle.rulelines.specs.declared.kinds.ReadKind.{ReadKind}
 use Rattle.rulelines.specs.Lines.{Pooled}
-use Rattle.rulelines.specs.RuleWords.{
-  IsKind,
-  made,
-  madeCellIs,
-  madeScale2,
-  madeScale3,
-  madeBar,
-  madeRank,
-  madeMean,
-  madeSame,
-  madeExpr,
-}
+use Rattle.rulelines.specs.RuleWords.{IsKind, madeCellIs, madeScale2, madeScale3, madeBar, madeRank, madeMean, madeSame, madeExpr}
 
 -- ---- the words
 
@@ -68,32 +57,32 @@ pub expr-word-room : {s : List ℕ} {at used : ℕ} {f : Field} → Room s at us
 expr-word-room {s} {at} {used} {f} r e x = room-on (word-exact exprWord) tt (f .next) r (word-read (wordP exprWord s at) e x)
 
 -- rules without a name leave the pool as it is
-pub scale2-unpooled : (g : Got (Rgb × Rgb)) (used : ℕ) (pool : List ℕ) → Pooled kindBytes (madeScale2 g) used pool pool
+scale2-unpooled : (g : Got (Rgb × Rgb)) (used : ℕ) (pool : List ℕ) → Pooled kindBytes (madeScale2 g) used pool pool
 unfolding kindBytes
 scale2-unpooled (got x q) used pool = refl
 scale2-unpooled (bad p) used pool = tt
 
-pub scale3-unpooled : (g : Got (Rgb × (Rgb × Rgb))) (used : ℕ) (pool : List ℕ) → Pooled kindBytes (madeScale3 g) used pool pool
+scale3-unpooled : (g : Got (Rgb × (Rgb × Rgb))) (used : ℕ) (pool : List ℕ) → Pooled kindBytes (madeScale3 g) used pool pool
 unfolding kindBytes
 scale3-unpooled (got x q) used pool = refl
 scale3-unpooled (bad p) used pool = tt
 
-pub bar-unpooled : (g : Got Rgb) (used : ℕ) (pool : List ℕ) → Pooled kindBytes (madeBar g) used pool pool
+bar-unpooled : (g : Got Rgb) (used : ℕ) (pool : List ℕ) → Pooled kindBytes (madeBar g) used pool pool
 unfolding kindBytes
 bar-unpooled (got x q) used pool = refl
 bar-unpooled (bad p) used pool = tt
 
-pub rank-unpooled : (g : Got rankT) (used : ℕ) (pool : List ℕ) → Pooled kindBytes (madeRank g) used pool pool
+rank-unpooled : (g : Got rankT) (used : ℕ) (pool : List ℕ) → Pooled kindBytes (madeRank g) used pool pool
 unfolding kindBytes
 rank-unpooled (got x q) used pool = refl
 rank-unpooled (bad p) used pool = tt
 
-pub mean-unpooled : (g : Got (Bool × Rgb)) (used : ℕ) (pool : List ℕ) → Pooled kindBytes (madeMean g) used pool pool
+mean-unpooled : (g : Got (Bool × Rgb)) (used : ℕ) (pool : List ℕ) → Pooled kindBytes (madeMean g) used pool pool
 unfolding kindBytes
 mean-unpooled (got x q) used pool = refl
 mean-unpooled (bad p) used pool = tt
 
-pub same-unpooled : (g : Got (Bool × Rgb)) (used : ℕ) (pool : List ℕ) → Pooled kindBytes (madeSame g) used pool pool
+same-unpooled : (g : Got (Bool × Rgb)) (used : ℕ) (pool : List ℕ) → Pooled kindBytes (madeSame g) used pool pool
 unfolding kindBytes
 same-unpooled (got x q) used pool = refl
 same-unpooled (bad p) used pool = tt
@@ -115,12 +104,12 @@ module _ (s : List ℕ) (at used : ℕ) (pool : List ℕ) where
       go (bad p) = refl
 
   module _ {f0 : Field} (e0 : f0 ≡ wordOf (wordP cellisWord s at)) (x0 : f0 .ok ≡ false) where
-    pub scale2-chosen : {f : Field} (r : ReadKind) (after : List ℕ) → f ≡ wordOf (wordP scale2Word s at) → f .ok ≡ true
-        → IsKind (madeScale2 (scale2 .parse s (f .next))) used r → Pooled kindBytes (madeScale2 (scale2 .parse s (f .next))) used pool after
-        → Says (kind .parse s at) r after
+    pub scale2-chosen : {f : Field} (r : ReadKind) → f ≡ wordOf (wordP scale2Word s at) → f .ok ≡ true
+        → IsKind (madeScale2 (scale2 .parse s (f .next))) used r
+        → Says (kind .parse s at) r pool
     unfolding kind bytes
-    scale2-chosen {f} r after ef x i p = rw (word-bad (wordP cellisWord s at) e0 x0, word-got (wordP scale2Word s at) ef x)
-        (rw (go (scale2 .parse s (f .next))) (i, p))
+    scale2-chosen {f} r ef x i = rw (word-bad (wordP cellisWord s at) e0 x0, word-got (wordP scale2Word s at) ef x)
+        (rw (go (scale2 .parse s (f .next))) (i, scale2-unpooled (scale2 .parse s (f .next)) used pool))
       where
         go : (g : Got (Rgb × Rgb))
             → then (then (then g (λ a e. got (inl a) e)) (λ b e. got (inr b) e)) (λ x e. got (toKind x) e) ≡ madeScale2 g
@@ -128,17 +117,16 @@ module _ (s : List ℕ) (at used : ℕ) (pool : List ℕ) where
         go (bad p) = refl
 
     module _ {f1 : Field} (e1 : f1 ≡ wordOf (wordP scale2Word s at)) (x1 : f1 .ok ≡ false) where
-      pub scale3-chosen : {f : Field} (r : ReadKind) (after : List ℕ) → f ≡ wordOf (wordP scale3Word s at) → f .ok ≡ true
-          → IsKind (madeScale3 (scale3 .parse s (f .next))) used r → Pooled kindBytes
-          (madeScale3 (scale3 .parse s (f .next))) used pool after
-          → Says (kind .parse s at) r after
+      pub scale3-chosen : {f : Field} (r : ReadKind) → f ≡ wordOf (wordP scale3Word s at) → f .ok ≡ true
+          → IsKind (madeScale3 (scale3 .parse s (f .next))) used r
+          → Says (kind .parse s at) r pool
       unfolding kind bytes
-      scale3-chosen {f} r after ef x i p = rw (
+      scale3-chosen {f} r ef x i = rw (
         word-bad (wordP cellisWord s at) e0 x0,
         word-bad (wordP scale2Word s at) e1 x1,
         word-got
             (wordP scale3Word s at) ef x,
-      ) (rw (go (scale3 .parse s (f .next))) (i, p))
+      ) (rw (go (scale3 .parse s (f .next))) (i, scale3-unpooled (scale3 .parse s (f .next)) used pool))
         where
           go : (g : Got (Rgb × (Rgb × Rgb)))
               → then (then (then (then g (λ a e. got (inl a) e)) (λ b e. got (inr b) e)) (λ b e. got (inr b) e))
@@ -147,17 +135,17 @@ module _ (s : List ℕ) (at used : ℕ) (pool : List ℕ) where
           go (bad p) = refl
 
       module _ {f2 : Field} (e2 : f2 ≡ wordOf (wordP scale3Word s at)) (x2 : f2 .ok ≡ false) where
-        pub bar-chosen : {f : Field} (r : ReadKind) (after : List ℕ) → f ≡ wordOf (wordP barWord s at) → f .ok ≡ true
-            → IsKind (madeBar (bar .parse s (f .next))) used r → Pooled kindBytes (madeBar (bar .parse s (f .next))) used pool after
-            → Says (kind .parse s at) r after
+        pub bar-chosen : {f : Field} (r : ReadKind) → f ≡ wordOf (wordP barWord s at) → f .ok ≡ true
+            → IsKind (madeBar (bar .parse s (f .next))) used r
+            → Says (kind .parse s at) r pool
         unfolding kind bytes
-        bar-chosen {f} r after ef x i p = rw (
+        bar-chosen {f} r ef x i = rw (
           word-bad (wordP cellisWord s at) e0 x0,
           word-bad (wordP scale2Word s at) e1 x1,
           word-bad
               (wordP scale3Word s at) e2 x2,
           word-got (wordP barWord s at) ef x,
-        ) (rw (go (bar .parse s (f .next))) (i, p))
+        ) (rw (go (bar .parse s (f .next))) (i, bar-unpooled (bar .parse s (f .next)) used pool))
           where
             go : (g : Got Rgb)
                 → then (then (then (then (then g (λ a e. got (inl a) e)) (λ b e. got (inr b) e)) (λ b e. got (inr b) e))
@@ -166,11 +154,11 @@ module _ (s : List ℕ) (at used : ℕ) (pool : List ℕ) where
             go (bad p) = refl
 
         module _ {f3 : Field} (e3 : f3 ≡ wordOf (wordP barWord s at)) (x3 : f3 .ok ≡ false) where
-          pub rank-chosen : {f : Field} (r : ReadKind) (after : List ℕ) → f ≡ wordOf (wordP rankWord s at) → f .ok ≡ true
-              → IsKind (madeRank (rank .parse s (f .next))) used r → Pooled kindBytes (madeRank (rank .parse s (f .next))) used pool after
-              → Says (kind .parse s at) r after
+          pub rank-chosen : {f : Field} (r : ReadKind) → f ≡ wordOf (wordP rankWord s at) → f .ok ≡ true
+              → IsKind (madeRank (rank .parse s (f .next))) used r
+              → Says (kind .parse s at) r pool
           unfolding kind bytes
-          rank-chosen {f} r after ef x i p = rw (
+          rank-chosen {f} r ef x i = rw (
             word-bad (wordP cellisWord s at) e0 x0,
             word-bad (wordP scale2Word s at) e1 x1,
             word-bad
@@ -178,7 +166,7 @@ module _ (s : List ℕ) (at used : ℕ) (pool : List ℕ) where
             word-bad (wordP barWord s at) e3 x3,
             word-got (wordP rankWord s at) ef x,
           )
-              (rw (go (rank .parse s (f .next))) (i, p))
+              (rw (go (rank .parse s (f .next))) (i, rank-unpooled (rank .parse s (f .next)) used pool))
             where
               go : (g : Got rankT)
                   → then (then (then (then (then (then g (λ a e. got (inl a) e)) (λ b e. got (inr b) e)) (λ b e. got (inr b) e))
@@ -187,11 +175,11 @@ module _ (s : List ℕ) (at used : ℕ) (pool : List ℕ) where
               go (bad p) = refl
 
           module _ {f4 : Field} (e4 : f4 ≡ wordOf (wordP rankWord s at)) (x4 : f4 .ok ≡ false) where
-            pub mean-chosen : {f : Field} (r : ReadKind) (after : List ℕ) → f ≡ wordOf (wordP meanWord s at) → f .ok ≡ true
-                → IsKind (madeMean (mean .parse s (f .next))) used r → Pooled kindBytes (madeMean (mean .parse s (f .next))) used pool after
-                → Says (kind .parse s at) r after
+            pub mean-chosen : {f : Field} (r : ReadKind) → f ≡ wordOf (wordP meanWord s at) → f .ok ≡ true
+                → IsKind (madeMean (mean .parse s (f .next))) used r
+                → Says (kind .parse s at) r pool
             unfolding kind bytes
-            mean-chosen {f} r after ef x i p = rw (
+            mean-chosen {f} r ef x i = rw (
               word-bad (wordP cellisWord s at) e0 x0,
               word-bad (wordP scale2Word s at) e1 x1,
               word-bad (wordP scale3Word s at) e2 x2,
@@ -199,7 +187,7 @@ module _ (s : List ℕ) (at used : ℕ) (pool : List ℕ) where
               word-bad
                   (wordP rankWord s at) e4 x4,
               word-got (wordP meanWord s at) ef x,
-            ) (rw (go (mean .parse s (f .next))) (i, p))
+            ) (rw (go (mean .parse s (f .next))) (i, mean-unpooled (mean .parse s (f .next)) used pool))
               where
                 go : (g : Got (Bool × Rgb))
                     → then (then (then (then (then (then (then g (λ a e. got (inl a) e)) (λ b e. got (inr b) e)) (λ b e. got (inr b) e))
@@ -208,12 +196,11 @@ module _ (s : List ℕ) (at used : ℕ) (pool : List ℕ) where
                 go (bad p) = refl
 
             module _ {f5 : Field} (e5 : f5 ≡ wordOf (wordP meanWord s at)) (x5 : f5 .ok ≡ false) where
-              pub same-chosen : {f : Field} (r : ReadKind) (after : List ℕ) → f ≡ wordOf (wordP sameWord s at) → f .ok ≡ true
-                  → IsKind (madeSame (same .parse s (f .next))) used r → Pooled kindBytes
-                  (madeSame (same .parse s (f .next))) used pool after
-                  → Says (kind .parse s at) r after
+              pub same-chosen : {f : Field} (r : ReadKind) → f ≡ wordOf (wordP sameWord s at) → f .ok ≡ true
+                  → IsKind (madeSame (same .parse s (f .next))) used r
+                  → Says (kind .parse s at) r pool
               unfolding kind bytes
-              same-chosen {f} r after ef x i p = rw (
+              same-chosen {f} r ef x i = rw (
                 word-bad (wordP cellisWord s at) e0 x0,
                 word-bad (wordP scale2Word s at) e1 x1,
                 word-bad (wordP scale3Word s at) e2 x2,
@@ -223,7 +210,7 @@ module _ (s : List ℕ) (at used : ℕ) (pool : List ℕ) where
                 word-bad (wordP meanWord s at) e5 x5,
                 word-got (wordP sameWord s at) ef x,
               )
-                  (rw (go (same .parse s (f .next))) (i, p))
+                  (rw (go (same .parse s (f .next))) (i, same-unpooled (same .parse s (f .next)) used pool))
                 where
                   go : (g : Got (Bool × Rgb))
                       → then (then (then (then (then (then (then (then g (λ a e. got (inl a) e)) (λ b e. got (inr b) e)) (λ b e. got (inr

@@ -1,24 +1,21 @@
 -- The grammars of colours, priorities and operators, field by field, and the answers of their readers. Assumes nothing.
-use Prim.Native.Nat.{ℕ, zero, suc, _+_, _≤_, _<_}
-use mathlib.Core.Path.{_≡_, refl, sym, ap, _∙_}
-use mathlib.Core.Bool.{Bool, true, false, cond, not}
+use Prim.Native.Nat.{ℕ}
+use mathlib.Core.Path.{_≡_, refl, ap, _∙_}
+use mathlib.Core.Bool.{true, false, not}
 use mathlib.Core.List.{List, [], _∷_}
-use native.Mathlib.Omega.{arith}
 use borrow.Author.Tests.{ne-eqb}
 use Rattle.model.specs.declared.ConditionalComparison.{ConditionalComparison}
 use Rattle.model.specs.declared.DvOp.{DvOp}
 use Rattle.model.specs.declared.Priority.{Priority}
-use Rattle.model.specs.declared.Rgb.{Rgb}
 use Rattle.grammar.specs.Gram.{Got}
 use Rattle.grammar.specs.Gram.Got.{got, bad}
-use Rattle.grammar.specs.Parts.{then, bytes, byteP, wordP}
+use Rattle.grammar.specs.Parts.{bytes, byteP, wordP}
 use Rattle.grammar.specs.Numbers.{decimalP, hexP}
 use Rattle.fields.specs.declared.Field.{Field}
 use Rattle.fields.specs.Field.{fieldOf, wordOf}
 use Rattle.fields.proofs.Laws.{field-read, field-none, word-got, word-bad, word-byte}
 use Rattle.jobtext.specs.Fields.{colour, priority, toDvOp, toComparison}
 use Rattle.rulelines.specs.declared.parts.ReadRgb.{ReadRgb}
-use Rattle.rulelines.specs.declared.parts.ReadPriority.{ReadPriority}
 use Rattle.rulelines.specs.Lines.{IsRgb, IsPriority}
 
 -- one byte, as the answer of `byte` tells it

@@ -2,7 +2,7 @@
 -- after the other, and a colour. Assumes nothing.
 use Prim.Native.Nat.{ℕ, zero, suc, _+_, _≤_, _<_}
 use mathlib.Core.Path.{_≡_, refl, sym, ap, _∙_, subst}
-use mathlib.Core.Bool.{Bool, true, false, cond, not}
+use mathlib.Core.Bool.{Bool, true, false, not}
 use mathlib.Core.List.{List, [], _∷_, _++_}
 use native.Mathlib.Omega.{arith}
 use lib.ListN.{length, set, length-append}
@@ -15,9 +15,9 @@ use Rattle.model.specs.declared.ConditionalComparison.{ConditionalComparison}
 use Rattle.model.specs.declared.DvOp.{DvOp}
 use Rattle.model.specs.declared.Rgb.{Rgb}
 use Rattle.model.specs.Comparison.{usesSecond}
-use Rattle.grammar.specs.Gram.{Got, Gram, Exactly}
+use Rattle.grammar.specs.Gram.{Got, Gram}
 use Rattle.grammar.specs.Gram.Got.{got, bad}
-use Rattle.grammar.specs.Parts.{then, bytes, wordP}
+use Rattle.grammar.specs.Parts.{bytes, wordP}
 use Rattle.grammar.specs.Numbers.{decimalP}
 use Rattle.grammar.proofs.Decimals.{decimal-exact}
 use Rattle.fields.specs.declared.Field.{Field}
@@ -25,14 +25,14 @@ use Rattle.fields.specs.Field.{fieldOf, wordOf}
 use Rattle.fields.specs.Room.{Room}
 use Rattle.fields.proofs.Laws.{field-read, field-none}
 use Rattle.fields.proofs.Room.{room-on, room-past}
-use Rattle.jobtext.specs.Written.{Operand, Kind}
+use Rattle.jobtext.specs.Written.{Operand}
 use Rattle.jobtext.specs.Fields.{colour, toDvOp, toComparison, dvOp, comparison, operand}
 use Rattle.jobtext.specs.Rules.{secondIf, cellIs, expr}
 use Rattle.jobtext.specs.Laid.{operandBytes, operandAt, kindAt, kindBytes}
 use Rattle.jobtext.proofs.Fields.{operand-exact}
 use Rattle.jobtext.proofs.Lengths.{operand-length}
-use Rattle.rulelines.specs.declared.ReadOperand.{ReadOperand}
-use Rattle.rulelines.specs.declared.ReadKind.{ReadKind}
+use Rattle.rulelines.specs.declared.operand.ReadOperand.{ReadOperand}
+use Rattle.rulelines.specs.declared.kinds.ReadKind.{ReadKind}
 use Rattle.rulelines.specs.declared.parts.ReadRgb.{ReadRgb}
 use Rattle.rulelines.specs.Lines.{IsRgb, IsOperand, Pooled}
 use Rattle.rulelines.specs.RuleWords.{IsKind, madeCellIs, madeExpr}

@@ -1,21 +1,19 @@
 -- The grammars of an operand and its parts, field by field, and the answers of their readers. Assumes nothing.
-use Prim.Native.Nat.{ℕ, _+_, _%_, _≤_, _<_}
-use mathlib.Core.Path.{_≡_, refl, sym, ap, _∙_}
-use mathlib.Core.Logic.{_⊎_, inl, inr}
-use mathlib.Core.Bool.{Bool, true, false, cond, not}
+use Prim.Native.Nat.{ℕ, _+_, _%_}
+use mathlib.Core.Path.{_≡_, refl}
+use mathlib.Core.Bool.{Bool, true, false, not}
 use mathlib.Core.List.{List, [], _∷_}
-use mathlib.Core.Option.{Option, none, some}
+use mathlib.Core.Option.{Option}
 use native.Mathlib.Omega.{arith}
 use lib.Dec.{leb, eqb}
 use lib.Ieee.{Float, binary64, ofBits}
 use lib.ListN.{length, drop}
-use lib.Seq.{sets}
 use Rattle.model.specs.declared.ConditionalOperand.{ConditionalOperand}
 use Rattle.model.specs.declared.SheetName.{SheetName}
 use Rattle.model.specs.Readings.{finite}
-use Rattle.grammar.specs.Gram.{Got, Exactly}
+use Rattle.grammar.specs.Gram.{Got}
 use Rattle.grammar.specs.Gram.Got.{got, bad}
-use Rattle.grammar.specs.Parts.{then, bytes, byteP, wordP, ended, word}
+use Rattle.grammar.specs.Parts.{bytes, byteP, wordP, ended}
 use Rattle.grammar.specs.Numbers.{decimalP, hex, pairsFrom}
 use Rattle.grammar.proofs.Parts.{word-exact}
 use Rattle.grammar.proofs.Decimals.{decimal-exact}
@@ -24,12 +22,12 @@ use Rattle.fields.specs.Field.{fieldOf, wordOf, textOf, pooled}
 use Rattle.fields.specs.Room.{Room}
 use Rattle.fields.proofs.Laws.{field-read, field-none, word-none, word-read, word-byte}
 use Rattle.fields.proofs.Room.{room-on}
-use Rattle.jobtext.specs.Written.{Reference, Operand}
+use Rattle.jobtext.specs.Written.{Reference}
 use Rattle.jobtext.specs.Fields.{textField, referenceName, reference, operand, finiteBits}
 use Rattle.jobtext.specs.Laid.{nameBytes, nameAt, referenceAt, operandBytes, operandAt}
 use Rattle.jobtext.proofs.Fields.{row-exact, col-exact}
-use Rattle.rulelines.specs.declared.ReadName.{ReadName}
-use Rattle.rulelines.specs.declared.ReadOperand.{ReadOperand}
+use Rattle.rulelines.specs.declared.operand.ReadName.{ReadName}
+use Rattle.rulelines.specs.declared.operand.ReadOperand.{ReadOperand}
 use Rattle.rulelines.specs.Lines.{IsName, IsOperand, IsLiteral, literalIf, IsReference, Pooled, referenceBytes}
 use Rattle.rulelines.proofs.Colours.{letter-got, letter-bad}
 

@@ -1,29 +1,28 @@
 -- The grammar of a rule line, field by field, and the answers of its reader. Assumes nothing.
-use Prim.Native.Nat.{ℕ, _+_, _≤_, _<_}
+use Prim.Native.Nat.{ℕ}
 use mathlib.Core.Path.{_≡_, refl, sym, ap, _∙_}
 use mathlib.Core.Bool.{Bool, true, false, not}
 use mathlib.Core.List.{List, [], _∷_}
 use native.Mathlib.Omega.{arith}
 use lib.Dec.{eqb}
-use lib.ListN.{length}
 use Rattle.model.specs.declared.Priority.{Priority}
 use Rattle.model.specs.declared.Range.{Range}
-use Rattle.grammar.specs.Gram.{Got, Gram, Exactly}
+use Rattle.grammar.specs.Gram.{Got}
 use Rattle.grammar.specs.Gram.Got.{got, bad}
-use Rattle.grammar.specs.Parts.{then, bytes, either}
+use Rattle.grammar.specs.Parts.{bytes, either}
 use Rattle.grammar.specs.Numbers.{decimalP}
 use Rattle.fields.specs.declared.Field.{Field}
 use Rattle.fields.specs.Field.{fieldOf, eitherOf}
 use Rattle.fields.specs.Room.{Room}
 use Rattle.fields.proofs.Laws.{field-read, field-none, either-read, either-bad}
 use Rattle.fields.proofs.Room.{room-on}
-use Rattle.jobtext.specs.Written.{Kind, RuleLine}
+use Rattle.jobtext.specs.Written.{Kind}
 use Rattle.jobtext.specs.Fields.{flag, priority}
 use Rattle.jobtext.specs.Rules.{kind, ruleLine}
-use Rattle.jobtext.specs.Laid.{kindAt, kindBytes, ruleAt}
+use Rattle.jobtext.specs.Laid.{kindBytes, ruleAt}
 use Rattle.jobtext.proofs.Fields.{row-exact, col-exact, flag-exact, priority-exact}
 use Rattle.rulelines.specs.declared.parts.ReadPriority.{ReadPriority}
-use Rattle.rulelines.specs.declared.ReadKind.{ReadKind}
+use Rattle.rulelines.specs.declared.kinds.ReadKind.{ReadKind}
 use Rattle.rulelines.specs.declared.ReadRule.{ReadRule}
 use Rattle.rulelines.specs.Lines.{IsPriority, Pooled}
 use Rattle.rulelines.specs.RuleWords.{IsKind}

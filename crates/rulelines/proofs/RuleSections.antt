@@ -10,9 +10,10 @@ use lib.ListN.{length, set, drop, replicate, length-set, length-append, length-r
 use lib.Seq.{sets, sets-eq, length-sets}
 use borrow.Author.Tests.{leb-true}
 use Rattle.model.specs.declared.Rule.{Rule}
-use Rattle.grammar.specs.Gram.{Got, Gram, Exactly}
+use Rattle.grammar.specs.Gram.{Got}
 use Rattle.grammar.specs.Gram.Got.{got, bad}
 use Rattle.grammar.specs.Parts.{then, timesP}
+use Rattle.grammar.proofs.Times.{times-next}
 use Rattle.fields.specs.Room.{Room}
 use Rattle.fields.specs.Room.{roomy}
 use Rattle.fields.proofs.Room.{room-past, roomy-room}
@@ -57,11 +58,6 @@ left-next i u l records pool (got ls q) =
     let y : i + 1 ≡ suc i = omega arith in
     rw (z, y, sets-append pool u b (ruleBytes ls))
 left-next i u l records pool (bad p) = refl
-
-times-next : {A : Type 0} (n i : ℕ) (p : List ℕ → ℕ → Got A) (s : List ℕ) (q : ℕ) → i < n
-    → timesP (n - i) p s q ≡ then (p s q) (λ a k. then (timesP (n - (i + 1)) p s k) (λ l e. got (a ∷ l) e))
-unfolding timesP
-times-next n i p s q h = let z : n - i ≡ suc (n - (i + 1)) = omega arith in rw z
 
 module _ {s : List ℕ} {at n used : ℕ} {records₀ : List Rule} {pool₀ : List ℕ} {records : List Rule} {pool : List ℕ} {q u i : ℕ}
     (w : Rest s at n used records₀ pool₀ records pool q u i) where

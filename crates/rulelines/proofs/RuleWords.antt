@@ -1,30 +1,26 @@
 -- The grammars of the rule words' parameters, field by field, and the answers of their readers. Assumes nothing.
-use Prim.Native.Nat.{ℕ, zero, suc, _+_, _≤_, _<_}
+use Prim.Native.Nat.{ℕ, _+_}
 use mathlib.Core.Path.{_≡_, refl, sym, ap, _∙_}
-use mathlib.Core.Bool.{Bool, true, false, cond, not}
-use mathlib.Core.List.{List, [], _∷_, _++_}
+use mathlib.Core.Bool.{true, false, not}
+use mathlib.Core.List.{List, [], _∷_}
 use native.Mathlib.Omega.{arith}
 use lib.Dec.{eqb}
-use lib.ListN.{length}
-use borrow.Author.Tests.{ne-eqb}
 use Rattle.model.specs.declared.CfRule.{CfRule}
-use Rattle.model.specs.declared.DvOp.{DvOp}
 use Rattle.model.specs.declared.Rgb.{Rgb}
-use Rattle.model.specs.Comparison.{usesSecond}
 use Rattle.grammar.specs.Gram.{Got}
 use Rattle.grammar.specs.Gram.Got.{got, bad}
-use Rattle.grammar.specs.Parts.{then, bytes, wordP, either}
+use Rattle.grammar.specs.Parts.{then, bytes, either}
 use Rattle.grammar.specs.Numbers.{decimalP}
 use Rattle.fields.specs.declared.Field.{Field}
-use Rattle.fields.specs.Field.{fieldOf, wordOf, eitherOf}
+use Rattle.fields.specs.Field.{fieldOf, eitherOf}
 use Rattle.fields.proofs.Laws.{field-read, field-none, either-read, either-bad}
-use Rattle.jobtext.specs.Fields.{colour, toDvOp}
+use Rattle.jobtext.specs.Fields.{colour}
 use Rattle.jobtext.specs.Rules.{scale2, scale3, bar, rank, mean, same}
 use Rattle.jobtext.specs.Laid.{kindAt, kindBytes}
 use Rattle.rulelines.specs.declared.parts.ReadRgb.{ReadRgb}
-use Rattle.rulelines.specs.declared.ReadKind.{ReadKind}
+use Rattle.rulelines.specs.declared.kinds.ReadKind.{ReadKind}
 use Rattle.rulelines.specs.Lines.{IsRgb}
-use Rattle.rulelines.specs.RuleWords.{IsKind, made, madeScale2, madeScale3, madeBar, madeRank, madeMean, madeSame}
+use Rattle.rulelines.specs.RuleWords.{IsKind, madeScale2, madeScale3, madeBar, madeRank, madeMean, madeSame}
 
 -- ---- what a colour's answer says
 

@@ -19,8 +19,8 @@ use Rattle.fields.specs.declared.Field.{Field}
 use Rattle.jobtext.specs.Laid.{nameBytes, nameAt, referenceAt, operandBytes, operandAt, kindBytes, kindAt, ruleAt}
 use Rattle.rulelines.specs.declared.parts.ReadRgb.{ReadRgb}
 use Rattle.rulelines.specs.declared.parts.ReadPriority.{ReadPriority}
-use Rattle.rulelines.specs.declared.ReadName.{ReadName}
-use Rattle.rulelines.specs.declared.ReadOperand.{ReadOperand}
+use Rattle.rulelines.specs.declared.operand.ReadName.{ReadName}
+use Rattle.rulelines.specs.declared.operand.ReadOperand.{ReadOperand}
 
 abbrev pub IsRgb : Got Rgb → ReadRgb → Type 0
 IsRgb (got c q) r = r ≡ record { ok = true; rgb = c; next = q }

@@ -12,7 +12,7 @@ use Rattle.grammar.specs.Parts.{then}
 use Rattle.jobtext.specs.Written.{Kind}
 use Rattle.jobtext.specs.Rules.{cellIsT, rankT, exprT, toKind}
 use Rattle.jobtext.specs.Laid.{kindBytes, kindAt}
-use Rattle.rulelines.specs.declared.ReadKind.{ReadKind}
+use Rattle.rulelines.specs.declared.kinds.ReadKind.{ReadKind}
 
 abbrev pub IsKind : Got Kind → ℕ → ReadKind → Type 0
 IsKind (got k q) u r = r ≡ record { ok = true; kind = kindAt u k; next = q; used = u + length (kindBytes k) }

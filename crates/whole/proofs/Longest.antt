@@ -1,23 +1,20 @@
 -- No text has a report longer than 42,979 bytes. Assumes nothing.
-use Prim.Native.Nat.{ℕ, suc, _≤_}
-use mathlib.Core.Path.{_≡_, refl}
+use Prim.Native.Nat.{ℕ, _≤_}
 use mathlib.Core.List.{List}
 use native.Mathlib.Omega.{arith}
 use lib.ListN.{length}
-use Rattle.model.specs.Answer.{Summary, refusal}
+use Rattle.model.specs.Answer.{refusal}
 use Rattle.model.specs.Job.{markSpace}
 use Rattle.jobtext.specs.Read.{ReadResult, read}
 use Rattle.jobtext.specs.Laid.{laid, space, decided}
 use Rattle.reporttext.specs.Report.{reportOf}
 use Rattle.reporttext.specs.Longest.{longest}
 use Rattle.reporttext.proofs.Longest.{longest-holds, refused-most}
+use Rattle.whole.proofs.Reports.{no-zero}
 
 space-marks : markSpace space ≤ 1024
 unfolding markSpace space
 space-marks = omega arith
-
-no-zero : (n : ℕ) → suc n ≡ 0 → ⊥
-no-zero n e = omega arith
 
 decided-longest : (r : ReadResult) → length (reportOf (decided r)) ≤ longest
 unfolding decided refusal

@@ -27,7 +27,7 @@ use Rattle.whole.proofs.Fitting.{Fits, read-fits}
 
 -- ---- a refused text
 
-no-zero : (n : ℕ) → suc n ≡ 0 → ⊥
+pub no-zero : (n : ℕ) → suc n ≡ 0 → ⊥
 no-zero n e = omega arith
 
 module _ (r : ReadResult) {job : ReadJob} (is : job ≡ readJob r) (not : job .number ≡ 0 → ⊥) where

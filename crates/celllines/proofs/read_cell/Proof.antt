@@ -49,30 +49,22 @@ read-value-requires c κs = value-room _ _ _ [] (c .before .before .before .befo
 cast-t12 : tie.Need-cast-t12
 cast-t12 c = omega (
   arith,
-  decimal-small 4294967295 32 (c .before .before .before .before .before .before .before .before .before .before
-      .before .before .before .before .before .before .args .s .now)
-      (c .before .before .before .before .before .before .before .before .before .before .before .before .before .before .before .before
-      .args .at) (omega arith) (omega arith) (c .before .before .before .before .before .before .before .before .before .before .before
-      .before .before .decimal .ensures),
+  decimal-small _ _ _ _ (omega arith) (omega arith) (c .before .before .before .before .before .before .before
+      .before .before .before .before .before .before .decimal .ensures),
 )
 
 cast-t13 : tie.Need-cast-t13
 cast-t13 c = omega (
   arith,
-  decimal-small 65535 32 (c .before .before .before .before .before .before .before .before .before .before
-      .before .before .before .before .before .before .before .args .s .now)
-      (c .before .before .before .before .before .before .before .before .before .before .before .before .before .before .decimal .result
-      .next) (omega arith) (omega arith) (c .before .before .before .before .before .before .before .before .before .before .before
-      .decimal2 .ensures),
+  decimal-small _ _ _ _ (omega arith) (omega arith) (c .before .before .before .before .before .before .before
+      .before .before .before .before .decimal2 .ensures),
 )
 
 cast-t14 : tie.Need-cast-t14
 cast-t14 c = omega (
   arith,
-  decimal-small 255 32 (c .before .before .before .before .before .before .before .before .before .before
-      .before .before .before .before .before .before .before .before .args .s .now)
-      (c .before .before .before .before .before .before .before .before .before .before .before .before .decimal2 .result .next)
-      (omega arith) (omega arith) (c .before .before .before .before .before .before .before .before .before .decimal3 .ensures),
+  decimal-small _ _ _ _ (omega arith) (omega arith) (c .before .before .before .before .before .before .before
+      .before .before .decimal3 .ensures),
 )
 
 same-length : tie.Need-same-length

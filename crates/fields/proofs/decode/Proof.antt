@@ -1,18 +1,12 @@
 -- `fields::decode` meets its contract. The loop's invariant: storing the bytes of the pairs left from here on gives what storing all
 -- of them from the start gives. A store passes on to the next pair. The measure is the pairs left. Assumes nothing.
-use Prim.Native.Nat.{_+_, _-_, _*_, _≤_, _<_}
-use mathlib.Core.Path.{_≡_, refl, sym, ap, _∙_}
+use mathlib.Core.Path.{refl, sym, _∙_}
 use native.Mathlib.Omega.{arith}
-use lib.ListN.{length, drop}
-use lib.Seq.{sets}
 use Rattle.fields.specs.Field.{pairBytes}
-use Rattle.fields.proofs.Pooling.{sets-out, pooling-done, pooling-next, Left, left-next}
+use Rattle.fields.proofs.Pooling.{sets-out, pooling-done, Left, left-next}
 use borrow.Author.Needs.{needs}
 use Rattle.fields.proofs.decode.Statement.{statement}
 use Rattle.fields.proofs.decode.Tie as tie
-use Rattle.fields.proofs.decode.Reads as reads
-use Rattle.fields.proofs.decode.Lts as lts
-use Rattle.fields.proofs.pair_byte.Reads as pair-byte-reads
 
 abbrev Inv-loop : tie.InvT-loop
 Inv-loop s at number pool₀ used k₀ q₀ u₀ pool k q u = Left s at number used pool₀ pool k q u

@@ -1,14 +1,10 @@
 -- `fields::digit_value` meets its contract, case by case. Assumes nothing.
-use Prim.Native.Nat.{_+_, _-_, _*_, _≤_, _<_}
-use mathlib.Core.Path.{_≡_, refl, sym, ap, _∙_}
+use mathlib.Core.Path.{sym}
 use native.Mathlib.Omega.{arith}
-use lib.ListN.{length, drop}
-use Rattle.fields.proofs.Laws.{digit-low, digit-decimal, digit-between, digit-letter, digit-high}
+use Rattle.fields.proofs.Hexadecimals.{digit-low, digit-decimal, digit-between, digit-letter, digit-high}
 use borrow.Author.Needs.{needs}
 use Rattle.fields.proofs.digit_value.Statement.{statement}
 use Rattle.fields.proofs.digit_value.Tie as tie
-use Rattle.fields.proofs.digit_value.Reads as reads
-use Rattle.fields.proofs.digit_value.Lts as lts
 
 returns : tie.Need-returns
 returns c = sym (digit-low _ (omega arith))

@@ -1,16 +1,9 @@
 -- `fields::text` meets its contract: a text is stored once it was found well formed. Assumes nothing.
-use Prim.Native.Nat.{_+_, _-_, _*_, _≤_, _<_}
-use mathlib.Core.Path.{_≡_, refl, sym, ap, _∙_}
-use native.Mathlib.Omega.{arith}
-use lib.ListN.{length, drop}
+use mathlib.Core.Path.{_∙_}
 use Rattle.fields.proofs.Pooling.{text-room, text-stored, text-unstored}
 use borrow.Author.Needs.{needs}
 use Rattle.fields.proofs.text.Statement.{statement}
 use Rattle.fields.proofs.text.Tie as tie
-use Rattle.fields.proofs.text.Reads as reads
-use Rattle.fields.proofs.text.Lts as lts
-use Rattle.fields.proofs.decode.Reads as decode-reads
-use Rattle.fields.proofs.pairs.Reads as pairs-reads
 
 pairs-requires : tie.Need-pairs-requires
 pairs-requires c κs = search needs

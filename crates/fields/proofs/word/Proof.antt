@@ -1,6 +1,6 @@
 -- `fields::word` meets its contract. The loop's invariant: reading what is left of the word from here gives what reading the whole
 -- word from the start gives. A byte read passes on to the next. The measure is what is left of the word. Assumes nothing.
-use Prim.Native.Nat.{_+_, _-_, _*_, _≤_, _<_}
+use Prim.Native.Nat.{_-_}
 use mathlib.Core.Path.{_≡_, refl, sym, ap, _∙_}
 use native.Mathlib.Omega.{arith}
 use lib.ListN.{length, drop}
@@ -10,8 +10,6 @@ use Rattle.fields.proofs.Laws.{word-done, word-end, word-other, word-ne
 use borrow.Author.Needs.{needs}
 use Rattle.fields.proofs.word.Statement.{statement}
 use Rattle.fields.proofs.word.Tie as tie
-use Rattle.fields.proofs.word.Reads as reads
-use Rattle.fields.proofs.word.Lts as lts
 
 abbrev Inv-loop : tie.InvT-loop
 Inv-loop s at w i₀ q₀ i q = wordP (drop i w) s q ≡ wordP w s at
@@ -22,9 +20,14 @@ abbrev μ-loop : tie.MeasureT-loop
 loop-holds : tie.Need-loop-holds Inv-loop μ-loop
 loop-holds c = refl
 
+no-field-requires : tie.Need-no-field-requires Inv-loop μ-loop
+no-field-requires c κs = search needs
+
 returns : tie.Need-returns Inv-loop μ-loop
-returns c = ap wordOf (sym (word-end (c .before .before .before .args .w .now) (c .before .before .before .args .s .now) (c .before
-    .before .loop .i) (c .before .before .loop .q) (omega arith) (omega arith)) ∙ c .before .before .loop .inv)
+returns c =
+    let l = c .before .before .before in
+    c .no-field .ensures ∙ ap wordOf (sym (word-end (l .before .before .before .args .w .now) _ (l .loop .i) _
+    (omega arith) (omega arith)) ∙ l .loop .inv)
 
 shared-slice-read-if2 : tie.Need-shared-slice-read-if2 Inv-loop μ-loop
 shared-slice-read-if2 c = omega arith
@@ -32,11 +35,14 @@ shared-slice-read-if2 c = omega arith
 shared-slice-read-if2-2 : tie.Need-shared-slice-read-if2-2 Inv-loop μ-loop
 shared-slice-read-if2-2 c = omega arith
 
+no-field-requires-2 : tie.Need-no-field-requires-2 Inv-loop μ-loop
+no-field-requires-2 c κs = search needs
+
 returns-2 : tie.Need-returns-2 Inv-loop μ-loop
-returns-2 c = ap wordOf (sym (word-other (c .before .before .before .before .before .before .args .w .now) (c .before .before .before
-    .before .before .before .args .s .now) (c .before .before .before .before .before .loop .i)
-    (c .before .before .before .before .before .loop .q) (omega arith) (omega arith)
-    (c .if2 .taken)) ∙ c .before .before .before .before .before .loop .inv)
+returns-2 c =
+    let l = c .before .before .before .before .before .before in
+    c .no-field2 .ensures ∙ ap wordOf (sym (word-other (l .before .before .before .args .w .now) _ (l .loop .i) _
+    (omega arith) (omega arith) (c .before .if2 .taken)) ∙ l .loop .inv)
 
 add-q : tie.Need-add-q Inv-loop μ-loop
 add-q c = search needs
@@ -48,14 +54,17 @@ loop-less : tie.Need-loop-less Inv-loop μ-loop
 loop-less c = omega arith
 
 loop-again : tie.Need-loop-again Inv-loop μ-loop
-loop-again c = sym (word-next (c .before .before .before .before .before .before .args .w .now)
-    (c .before .before .before .before .before .before .args .s .now) (c .before .before .before .before .before .loop .i)
-    (c .before .before .before .before .before .loop .q) (omega arith) (omega arith)
-    (c .if2 .left)) ∙ c .before .before .before .before .before .loop .inv
+loop-again c =
+    let l = c .before .before .before .before .before in
+    sym (word-next (l .before .before .before .args .w .now) _ (l .loop .i) _ (omega arith) (omega arith) (c .if2 .left)) ∙ l .loop .inv
+
+found-requires : tie.Need-found-requires Inv-loop μ-loop
+found-requires c κs = search needs
 
 returns-3 : tie.Need-returns-3 Inv-loop μ-loop
-returns-3 c = ap wordOf (sym (word-done (c .before .before .args .w .now) (c .before .before .args .s .now) (c .before .loop .i) (c
-    .before .loop .q) (omega arith)) ∙ c .before .loop .inv)
+returns-3 c =
+    let l = c .before .before in
+    c .found .ensures ∙ ap wordOf (sym (word-done (l .before .before .before .args .w .now) _ (l .loop .i) _ (omega arith)) ∙ l .loop .inv)
 
 pub word-spec : {M : Type 1} → statement M
 word-spec =
@@ -64,12 +73,12 @@ word-spec =
     Inv-loop
     μ-loop
     loop-holds
-    returns
+    no-field-requires returns
     shared-slice-read-if2
     shared-slice-read-if2-2
-    returns-2
+    no-field-requires-2 returns-2
     add-q
     add-i
     loop-less
     loop-again
-    returns-3)
+    found-requires returns-3)

@@ -1,5 +1,6 @@
 -- `reader::finish` meets its contract, case by case. Assumes nothing.
 use Rattle.reader.proofs.Texts.{sections-refused, line-too-many, all-read}
+use native.Mathlib.Omega.{arith}
 use borrow.Author.Needs.{needs}
 use Rattle.reader.proofs.finish.Statement.{statement}
 use Rattle.reader.proofs.finish.Tie as tie
@@ -29,8 +30,8 @@ returns-2 c =
     let line-of2-at = c .before in
     let if2-at = line-of2-at .before in
     let entry = if2-at .before .before .before .before .before in
-    line-too-many (entry .args .s .now) (entry .args .start) (entry .args .body) (if2-at .if2 .taken) (line-of2-at .line-of2
-    .ensures) (c .refused2 .ensures)
+    line-too-many (entry .args .s .now) (entry .args .start) (entry .args .body) (λ e. omega (arith, if2-at .if2 .taken, e))
+    (line-of2-at .line-of2 .ensures) (c .refused2 .ensures)
 
 cast-t9 : tie.Need-cast-t9
 cast-t9 c = search needs
@@ -40,7 +41,8 @@ returns-3 c =
     let if2-at = c .before .before in
     let if1-at = if2-at .before .before in
     let entry = if1-at .before .before .before in
-    all-read (entry .args .s .now) (entry .args .start) (entry .args .body) (if1-at .if1 .left) (if2-at .if2 .left)
+    all-read (entry .args .s .now) (entry .args .start) (entry .args .body) (if1-at .if1 .left)
+    (omega (arith, if2-at .if2 .left))
 
 pub finish-spec : {M : Type 1} → statement M
 finish-spec =

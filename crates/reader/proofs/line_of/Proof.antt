@@ -15,7 +15,7 @@ abbrev μ-loop : tie.MeasureT-loop
 
 loop-holds : tie.Need-loop-holds Inv-loop μ-loop
 loop-holds c =
-    ⊎-elim (λ w. counted-within _ _ _ (w .0 .taken) (w .1)) (λ w. counted-past _ _ _ (w .0 .left) (w .1))
+    ⊎-elim (λ w. counted-within _ _ _ (omega arith) (w .0 .taken) (w .1)) (λ w. counted-past _ _ _ (omega arith) (w .0 .left) (w .1))
     (c .if1 .came)
 
 shared-slice-read-if2 : tie.Need-shared-slice-read-if2 Inv-loop μ-loop

@@ -74,7 +74,7 @@ returns c =
     let a = read-at c .before .before .before .before .before .before .before .before .before .before .before .before .before .before
     .before .before .before .before .before .before .before .before .args in
     job-refused _ (columns (a .rows .now) (a .cols .now) (a .kinds .now) (a .wraps .now) (a .nums .now) (a .ats .now) (a .lens .now))
-    (a .region-rows .now) (a .region-cols .now) (a .pool .now)
+    (a .regionrows .now) (a .regioncols .now) (a .pool .now)
     (columns (l .1 .0) (l .1 .1 .0) (l .1 .1 .1 .0) (l .1 .1 .1 .1 .0) (l .1 .1 .1 .1 .1 .0) (l .1 .1 .1 .1 .1 .1 .0)
     (l .1 .1 .1 .1 .1 .1 .1 .0)) (l .1 .1 .1 .1 .1 .1 .1 .1 .0) (l .1 .1 .1 .1 .1 .1 .1 .1 .1 .0) (l .1 .1 .1 .1 .1 .1 .1 .1 .1 .1 .0)
     (r .ensures .0) (cleared-at c .before .before .before .before .before .before .before .before .before .if1 .taken) (r .kept .1)

@@ -44,26 +44,15 @@ word-requires c κs = search needs
 cast-t10 : tie.Need-cast-t10
 cast-t10 c = omega (
   arith,
-  channel-small (c .before .before .before .before .before .before .before .before .before .before .before
-      .before .before .args .s .now) (c .before .before .before .before .before .before .before .before .before .before .before .before
-      .before .args .at) (c .before .before .before .before .before .before .before .before .before .before .channel .ensures),
+  channel-small _ _ (c .before .before .before .before .before .before .before .before .before .before .channel
+      .ensures),
 )
 
 cast-t11 : tie.Need-cast-t11
-cast-t11 c = omega (
-  arith,
-  channel-small (c .before .before .before .before .before .before .before .before .before .before .before
-      .before .before .before .args .s .now) (c .before .before .before .before .before .before .before .before .before .before .before
-      .channel .result .next) (c .before .before .before .before .before .before .before .before .channel2 .ensures),
-)
+cast-t11 c = omega (arith, channel-small _ _ (c .before .before .before .before .before .before .before .before .channel2 .ensures))
 
 cast-t12 : tie.Need-cast-t12
-cast-t12 c = omega (
-  arith,
-  channel-small (c .before .before .before .before .before .before .before .before .before .before .before
-      .before .before .before .before .args .s .now) (c .before .before .before .before .before .before .before .before .before .channel2
-      .result .next) (c .before .before .before .before .before .before .channel3 .ensures),
-)
+cast-t12 c = omega (arith, channel-small _ _ (c .before .before .before .before .before .before .channel3 .ensures))
 
 returns-4 : tie.Need-returns-4
 returns-4 c = colour-answer _ _ _ (c .before .before .before .before .before .before .before .before .before .before .before .before

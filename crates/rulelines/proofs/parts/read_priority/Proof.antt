@@ -19,11 +19,7 @@ decimal-requires : tie.Need-decimal-requires
 decimal-requires c κs = search needs
 
 cast-t8 : tie.Need-cast-t8
-cast-t8 c = omega (
-  arith,
-  decimal-small 4294967295 32 (c .before .before .before .before .before .args .s .now)
-      (c .before .before .before .before .before .args .at) (omega arith) (omega arith) (c .before .decimal .ensures),
-)
+cast-t8 c = omega (arith, decimal-small _ _ _ _ (omega arith) (omega arith) (c .before .decimal .ensures))
 
 returns-2 : tie.Need-returns-2
 returns-2 c = priority-written _ _ (c .before .before .before .byte .ensures) (c .before .before .if1 .left) (c .before .decimal .ensures)
