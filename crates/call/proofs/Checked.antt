@@ -1,17 +1,17 @@
 -- What a job has whose checks pass: few regions, room for bars and values; and the result of a job by its checks. Assumes nothing.
 use Prim.Native.Nat.{ℕ, _≤_}
 use native.Mathlib.Omega.{arith}
-use mathlib.Core.Path.{_≡_, refl, sym, ap, _∙_}
+use mathlib.Core.Path.{_≡_, refl}
 use mathlib.Core.Bool.{Bool, true, false, cond, _||_}
 use mathlib.Core.List.{List, [], _∷_}
 use mathlib.Core.Option.{Option, none, some}
 use lib.Dec.{ltb}
 use lib.ListN.{length}
 use borrow.Author.Tests.{ltb-false}
-use Rattle.model.specs.Answer.{Summary, limited}
+use Rattle.model.specs.Answer.{Summary}
 use Rattle.model.specs.Job.{Job, Lengths, cellCount, regionCount, tooMany, refuseIf, firstOf, malformed, spaceShort}
 use Rattle.checks.specs.Checked.{refusalOf}
-use Rattle.laws.proofs.DemandOne.{Spaces, roomy-spaces}
+use Rattle.laws.proofs.DemandOne.{roomy-spaces}
 
 first-none : (a b : Option Summary) → firstOf (a ∷ b ∷ []) ≡ none → (a ≡ none) × (b ≡ none)
 unfolding firstOf

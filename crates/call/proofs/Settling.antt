@@ -1,22 +1,20 @@
 -- The rules in turn over cleared columns, settled, are the definition's result: its answer, and its columns, which are kept only if the
 -- job is answered. Assumes nothing.
-use Prim.Native.Nat.{ℕ, _+_, _≤_, min}
+use Prim.Native.Nat.{ℕ, _≤_}
 use native.Mathlib.Omega.{arith}
 use mathlib.Core.Path.{_≡_, refl, sym, ap, subst, _∙_}
 use mathlib.Core.Bool.{Bool, true, false, cond}
-use mathlib.Core.List.{List}
 use lib.Dec.{leb, eqb}
 use lib.ListN.{length, replicate, length-replicate}
 use borrow.Author.Tests.{leb-true}
 use Rattle.charging.specs.declared.Counter.{Counter}
 use Rattle.charging.specs.declared.Charged.{Charged}
 use Rattle.charging.specs.Charge.{andThen, spend}
-use Rattle.model.specs.declared.Rule.{Rule}
 use Rattle.model.specs.Ratio.{zeroF}
-use Rattle.model.specs.Run.{Run, RegionState, Mark, untouched, run, runFrom, ordered}
+use Rattle.model.specs.Run.{Run, RegionState, untouched, run, runFrom, ordered}
 use Rattle.model.specs.Answer.{Summary, Result, refusal, refused, answer, answered, settled, limited}
 use Rattle.model.specs.Job.{Job, Lengths, markSpace, rulesOf, regionCount, sheetOf, runOf}
-use Rattle.model.specs.Columns.{Columns, column, written}
+use Rattle.model.specs.Columns.{Columns, written}
 use Rattle.laws.specs.Demands.{zeros}
 use Rattle.laws.proofs.Lengths.{regions-length}
 use Rattle.laws.proofs.DemandOne.{written-none}
@@ -25,7 +23,7 @@ use Rattle.emit.proofs.Marks.{put-marks-zeros}
 use Rattle.emit.proofs.States.{barsOf, bars-untouched, stops-none}
 use Rattle.runs.specs.declared.Ran.{Ran}
 use Rattle.runs.specs.Turns.{State, stateOf, ranNone, Left, leftBy, sheetIn, sayIn, runIn}
-use Rattle.runs.proofs.Laws.{Held, Written, Carried, turns-carried}
+use Rattle.runs.proofs.Laws.{Held, Carried, turns-carried}
 use Rattle.runs.proofs.Saying.{says-in}
 use Rattle.settling.specs.Settling.{settledBy, settledAs, keptIf, lent}
 use Rattle.call.proofs.Checked.{Fine}

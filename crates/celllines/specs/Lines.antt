@@ -1,22 +1,17 @@
 -- What the readers of cell lines answer for each result of the grammar, and what they leave in the columns and in the pool.
 -- Assumes nothing.
 use Prim.Native.Nat.{ℕ, _+_}
-use mathlib.Core.Bool.{Bool, true, false, cond}
-use mathlib.Core.List.{List, [], _∷_}
+use mathlib.Core.Bool.{true, false}
+use mathlib.Core.List.{List}
 use mathlib.Core.Path.{_≡_}
-use lib.ListN.{length, replicate}
+use lib.ListN.{length}
 use lib.Seq.{sets}
-use Rattle.model.specs.Sheet.{CellColumns}
 use Rattle.grammar.specs.Gram.{Got}
 use Rattle.grammar.specs.Gram.Got.{got, bad}
-use Rattle.grammar.specs.Parts.{times}
-use Rattle.fields.specs.Room.{roomy}
 use Rattle.jobtext.specs.Written.{Value, CellLine}
-use Rattle.jobtext.specs.Text.{cellLine}
-use Rattle.jobtext.specs.Laid.{valueBytes, cellBytes, kindOf, numOf, atOf, lenOf, columnsFrom}
+use Rattle.jobtext.specs.Laid.{valueBytes, kindOf, numOf, atOf, lenOf}
 use Rattle.celllines.specs.declared.ReadValue.{ReadValue}
 use Rattle.celllines.specs.declared.ReadCell.{ReadCell}
-use Rattle.celllines.specs.declared.Section.{Section}
 
 -- a value whose text, if it has one, goes to u in the pool; nothing is said of the other fields where none was read
 abbrev pub IsValue : Got Value → ℕ → ReadValue → Type 0

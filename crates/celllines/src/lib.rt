@@ -1,9 +1,9 @@
 // Cell lines of a job text, into lent columns, with the texts into a lent pool.
 use fields::Field;
-ghost use Prim.Native.Nat.{_+_, _≤_};
+ghost use Prim.Native.Nat.{_+_};
 ghost use mathlib.Core.Bool.{false};
 ghost use mathlib.Core.Path.{_≡_};
-ghost use lib.ListN.{length, set, replicate};
+ghost use lib.ListN.{length, replicate};
 ghost use Rattle.grammar.specs.Parts.{timesP};
 ghost use Rattle.fields.specs.Room.{Room};
 ghost use Rattle.jobtext.specs.Fields.{value};

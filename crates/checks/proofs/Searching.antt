@@ -1,7 +1,7 @@
 -- One turn of a search for the first index at which a test holds: found here, passed, or ended. `whole` is what the search finds from
 -- its start on, and stays what it finds from i on. First of the numbers below n, then of a job's rules. Assumes nothing.
 use Prim.Native.Nat.{ℕ, suc, _+_, _-_, _≤_, _<_, min}
-use mathlib.Core.Path.{_≡_, refl, sym, ap, _∙_}
+use mathlib.Core.Path.{_≡_, sym, ap, _∙_}
 use mathlib.Core.Bool.{Bool, true, false}
 use mathlib.Core.List.{List, _∷_, map}
 use mathlib.Core.Option.{Option}

@@ -10,7 +10,7 @@ use Rattle.charging.specs.declared.Charged.{Charged}
 use Rattle.charging.specs.Charge.{spend}
 use Rattle.model.specs.declared.Answer.{Answer}
 use Rattle.model.specs.Run.{Run}
-use Rattle.model.specs.Answer.{Summary, Result, refusal, refused, answer, answered, summary, settled, limited}
+use Rattle.model.specs.Answer.{Summary, Result, refusal, refused, answered, summary, settled, limited}
 use Rattle.model.specs.Job.{Job, Lengths, markSpace, firstOf, refuseIf, refuseAt, malformed, spaceShort, runOf, result}
 use Rattle.laws.proofs.Results.{result-checked}
 

@@ -16,19 +16,7 @@ use Rattle.laws.specs.Demands.{reached, markCount, lengthsOf}
 use Rattle.laws.proofs.Answer.{summary-injective}
 use Rattle.laws.proofs.DemandOne.{demand-one}
 use Rattle.laws.proofs.DemandThree.{demand-three}
-use Rattle.claims.specs.Claims.{
-  Where,
-  Ends,
-  IsAnswered,
-  NothingAsked,
-  Determined,
-  Possible,
-  One,
-  DemandOne,
-  Three,
-  DemandThree,
-  Met,
-}
+use Rattle.claims.specs.Claims.{Where, Ends, NothingAsked, Determined, Possible, DemandOne, DemandThree, Met}
 use Rattle.claims.proofs.Answers.{result-told}
 
 -- ---- what the contract promises

@@ -1,28 +1,24 @@
 -- Each claim of specs/WholeJobs.antt, held. Assumes nothing.
-use Prim.Native.Nat.{ℕ, _-_, _^_, _≤_, _<_}
+use Prim.Native.Nat.{ℕ, _-_, _≤_, _<_}
 use native.Mathlib.Omega.{arith}
-use mathlib.Core.Path.{_≡_, refl, sym, ap, _∙_}
-use mathlib.Core.Logic.{inl, inr}
-use mathlib.Core.Bool.{Bool, true, false, cond, _||_}
-use mathlib.Core.List.{List, [], _∷_}
-use mathlib.Core.Option.{Option, none, some}
-use lib.Dec.{leb, ltb, eqb}
+use mathlib.Core.Path.{_≡_, refl, ap, _∙_}
+use mathlib.Core.Logic.{inr}
+use mathlib.Core.Bool.{Bool, true, false, cond}
+use mathlib.Core.List.{List}
+use lib.Dec.{ltb, eqb}
 use lib.ListN.{length, take, replicate}
 use lib.Seq.{take-append-seam}
 use borrow.Author.Tests.{le-leb, le-ltb, ltb-true}
 use Rattle.grammar.specs.Gram.{Got, lineOf}
 use Rattle.grammar.specs.Gram.Got.{got, bad}
-use Rattle.model.specs.Answer.{Summary, answered}
 use Rattle.model.specs.Job.{Job, markSpace, cellCount, regionCount, refuseIf, spaceShort}
-use Rattle.laws.specs.Demands.{WellFormed, Roomy, reached, markCount}
+use Rattle.laws.specs.Demands.{WellFormed, Roomy}
 use Rattle.laws.proofs.DemandThree.{demand-three}
-use Rattle.jobtext.specs.Written.{JobText}
-use Rattle.jobtext.specs.Text.{Head, bodyT, head, body, toJob, job}
+use Rattle.jobtext.specs.Text.{Head, bodyT, head, body, toJob}
 use Rattle.jobtext.specs.Read.{ReadResult, maxText, over, closed, within, headed, sized, read}
 use Rattle.jobtext.specs.Laid.{laid, space, decided}
-use Rattle.jobtext.proofs.Reading.{Readable, read-accepted, text-read, job-text-one, read-too-long}
+use Rattle.jobtext.proofs.Reading.{read-accepted, text-read, job-text-one, read-too-long}
 use Rattle.put.specs.Laid.{page, pageLength}
-use Rattle.reporttext.specs.Longest.{longest}
 use Rattle.reporttext.proofs.Jobs.{well-formed-few}
 use Rattle.whole.proofs.Longest.{whole-longest}
 use Rattle.claims.specs.WholeJobs.{NothingAskedOfTexts, reportOn, Printed, AlwaysWhole, ReadExactly, OneText, TooLong, LimitRaised}

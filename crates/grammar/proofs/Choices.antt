@@ -1,16 +1,16 @@
 -- A choice by words is exact where no text of the second part begins with the word of the first. Assumes nothing.
-use Prim.Native.Nat.{ℕ, suc, _+_}
-use mathlib.Core.Path.{_≡_, refl, sym, ap, _∙_}
+use Prim.Native.Nat.{ℕ, _+_}
+use mathlib.Core.Path.{_≡_, refl, ap, _∙_}
 use mathlib.Core.Logic.{_⊎_, inl, inr}
 use mathlib.Core.Bool.{Bool, true, false, cond}
 use mathlib.Core.List.{List, [], _∷_, _++_, append-assoc}
 use native.Mathlib.Omega.{arith}
 use lib.Dec.{eqb, T}
-use lib.ListN.{length, drop, getD, length-append}
-use borrow.Author.Tests.{lt-ltb, eq-eqb, ne-eqb, eqb-true, eqb-false}
+use lib.ListN.{length, drop, length-append}
+use borrow.Author.Tests.{lt-ltb}
 use Rattle.grammar.specs.Gram.{Got, Gram, Exactly}
 use Rattle.grammar.specs.Gram.Got.{got, bad}
-use Rattle.grammar.specs.Parts.{then, byteP, wordP, pick, choiceOk, choiceText, choice, apart, word, isSecond, second, either}
+use Rattle.grammar.specs.Parts.{byteP, wordP, pick, choice, apart, word, isSecond, second, either}
 use Rattle.grammar.proofs.Places.{past, within, at-head, from}
 use Rattle.grammar.proofs.Parts.{word-got, word-reads, word-exact, readAs-exact}
 

@@ -5,16 +5,16 @@ use mathlib.Core.Path.{_≡_, refl, sym, ap, _∙_}
 use mathlib.Core.Bool.{Bool, true, false, cond}
 use mathlib.Core.List.{List, [], _∷_, _++_, append-assoc, append-nil}
 use native.Mathlib.Omega.{arith}
-use lib.Dec.{ltb, leb, eqb, T}
-use lib.ListN.{length, drop, getD, length-append}
-use borrow.Author.Tests.{lt-ltb, le-ltb, eq-eqb, ne-eqb, ltb-true, ltb-false, eqb-true, eqb-false}
-use Rattle.grammar.specs.Gram.{Got, Gram, Exactly}
+use lib.Dec.{ltb, eqb, T}
+use lib.ListN.{length, drop, length-append}
+use borrow.Author.Tests.{lt-ltb, le-ltb, ne-eqb, ltb-true, ltb-false, eqb-true, eqb-false}
+use Rattle.grammar.specs.Gram.{Exactly}
 use Rattle.grammar.specs.Gram.Got.{got, bad}
-use Rattle.grammar.specs.Parts.{then, byteP, wordP, apart}
+use Rattle.grammar.specs.Parts.{then, byteP, apart}
 use Rattle.grammar.specs.Numbers.{digits, decimalText, decimalFrom, decimalAt, decimalP, decimal}
 use Rattle.grammar.proofs.Places.{past, bad-got, Steps, steps, from}
 use Rattle.grammar.proofs.Parts.{byte-got, byte-reads}
-use Rattle.grammar.proofs.Choices.{Unread, Never, word-apart}
+use Rattle.grammar.proofs.Choices.{Never, word-apart}
 
 -- ---- digits
 

@@ -1,13 +1,13 @@
 -- The grammar of k hexadecimal digits is exact: k digits are read back, and what is read is what would be written. Assumes nothing.
-use Prim.Native.Nat.{ℕ, zero, suc, _+_, _-_, _*_, _/_, _%_, _^_, _≤_, _<_}
+use Prim.Native.Nat.{ℕ, zero, suc, _+_, _-_, _*_, _/_, _%_, _≤_, _<_}
 use mathlib.Core.Path.{_≡_, refl, sym, ap, _∙_}
 use mathlib.Core.Bool.{Bool, true, false, cond, _&&_}
 use mathlib.Core.List.{List, [], _∷_, _++_, append-assoc, append-nil}
 use native.Mathlib.Omega.{arith}
 use lib.Dec.{ltb, leb}
 use lib.ListN.{length, drop, getD, length-append}
-use borrow.Author.Tests.{lt-ltb, le-ltb, le-leb, lt-leb, ltb-true, ltb-false, leb-true, leb-false}
-use Rattle.grammar.specs.Gram.{Got, Gram, Exactly}
+use borrow.Author.Tests.{lt-ltb, le-ltb, le-leb, lt-leb, ltb-true, ltb-false, leb-true}
+use Rattle.grammar.specs.Gram.{Exactly}
 use Rattle.grammar.specs.Gram.Got.{got, bad}
 use Rattle.grammar.specs.Numbers.{hexDigit, hexDigits, digitValue, isHex, hexP, sixteens, hex}
 use Rattle.grammar.proofs.Places.{past, within, here, at-head, bad-got}

@@ -8,7 +8,7 @@ use native.Mathlib.Omega.{arith}
 use lib.Dec.{ltb, eqb, T}
 use lib.ListN.{length, drop, getD, length-append}
 use borrow.Author.Tests.{lt-ltb, eq-eqb, ltb-true, eqb-true}
-use Rattle.grammar.specs.Gram.{Got, Gram, Exactly}
+use Rattle.grammar.specs.Gram.{Gram, Exactly}
 use Rattle.grammar.specs.Gram.Got.{got, bad}
 use Rattle.grammar.specs.Parts.{
   then,
@@ -28,7 +28,7 @@ use Rattle.grammar.specs.Parts.{
   such,
   only,
 }
-use Rattle.grammar.proofs.Places.{past, within, here, at-head, bad-got, From, from, Steps, steps}
+use Rattle.grammar.proofs.Places.{past, within, here, at-head, bad-got, from, Steps, steps}
 
 -- ---- words
 

@@ -1,12 +1,12 @@
 -- A whole text is accepted by an exact grammar where and only where it is the text of a value that has one. Assumes nothing.
 use Prim.Native.Nat.{ℕ, _+_}
 use mathlib.Core.Path.{_≡_, refl, sym, ap, _∙_}
-use mathlib.Core.List.{List, [], _∷_, _++_, append-nil}
+use mathlib.Core.List.{List, [], _++_, append-nil}
 use native.Mathlib.Omega.{arith}
-use lib.ListN.{length, drop}
+use lib.ListN.{length}
 use lib.Seq.{drop-length}
-use Rattle.grammar.specs.Gram.{Got, Gram, Exactly}
-use Rattle.grammar.specs.Gram.Got.{got, bad}
+use Rattle.grammar.specs.Gram.{Gram, Exactly}
+use Rattle.grammar.specs.Gram.Got.{got}
 
 module _ {A : Type 0} {g : Gram A} (G : Exactly g) where
   pub accepted : (s : List ℕ) (a : A) → g .parse s 0 ≡ got a (length s) → g .Ok a × (s ≡ g .text a)

@@ -4,29 +4,18 @@ use Prim.Native.Nat.{ℕ}
 use Prim.Native.String.{String}
 use mathlib.Core.Path.{_≡_, refl}
 use mathlib.Core.Bool.{Bool, true, false}
-use mathlib.Core.List.{List, [], _∷_, _++_}
+use mathlib.Core.List.{List, [], _∷_}
 use mathlib.Core.Option.{Option, none, some}
-use lib.Ieee.{binary64, ofBits}
 use lib.ListN.{length}
-use Rattle.model.specs.declared.CellCoordinate.{CellCoordinate}
-use Rattle.model.specs.declared.CfRule.{CfRule}
 use Rattle.model.specs.declared.ConditionalComparison.{ConditionalComparison}
-use Rattle.model.specs.declared.ConditionalOperand.{ConditionalOperand}
 use Rattle.model.specs.declared.DvOp.{DvOp}
-use Rattle.model.specs.declared.Priority.{Priority}
-use Rattle.model.specs.declared.Range.{Range}
 use Rattle.model.specs.declared.Rgb.{Rgb}
-use Rattle.model.specs.declared.SheetName.{SheetName}
-use Rattle.grammar.specs.Gram.{Got}
-use Rattle.grammar.specs.Gram.Got.{got, bad}
+use Rattle.grammar.specs.Gram.Got.{got}
 use Rattle.grammar.specs.Parts.{bytes}
-use Rattle.jobtext.specs.Written.{Value, CellLine, Reference, Operand, Kind, RuleLine, JobText}
-use Rattle.jobtext.specs.Fields.{value, operand}
-use Rattle.jobtext.specs.Rules.{kind, ruleLine}
-use Rattle.jobtext.specs.Read.{ReadResult, read}
-use Rattle.jobtext.specs.Laid.{laid}
-use Rattle.jobtext.proofs.Computing.{reading, laying}
-use Rattle.jobtext.proofs.WorkedText.{lines}
+use Rattle.jobtext.specs.Written.{Value, Operand, Kind}
+use Rattle.jobtext.specs.Fields.{value}
+use Rattle.jobtext.specs.Rules.{kind}
+use Rattle.jobtext.proofs.Computing.{reading}
 
 -- ---- values: any bits, also those of a signalling not-a-number
 

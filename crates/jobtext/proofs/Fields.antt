@@ -1,8 +1,8 @@
 -- The grammars of the job text's fields are exact. Assumes nothing.
-use Prim.Native.Nat.{ℕ, zero, suc, _+_, _%_, _≤_, _<_}
-use mathlib.Core.Path.{_≡_, refl, sym, ap, _∙_}
+use Prim.Native.Nat.{ℕ, zero, suc, _≤_, _<_}
+use mathlib.Core.Path.{_≡_, refl}
 use mathlib.Core.Logic.{_⊎_, inl, inr}
-use mathlib.Core.Bool.{Bool, true, false, cond}
+use mathlib.Core.Bool.{Bool, true, false}
 use mathlib.Core.List.{List, [], _∷_}
 use mathlib.Core.Option.{Option, none, some}
 use native.Mathlib.Omega.{arith}
@@ -10,16 +10,15 @@ use lib.Dec.{T}
 use Rattle.model.specs.declared.ConditionalComparison.{ConditionalComparison}
 use Rattle.model.specs.declared.DvOp.{DvOp}
 use Rattle.model.specs.declared.Priority.{Priority}
-use Rattle.model.specs.declared.Rgb.{Rgb}
 use Rattle.grammar.specs.Gram.{Gram, Exactly}
-use Rattle.grammar.specs.Parts.{bytes, apart, word, behind, ended, choice, either}
-use Rattle.grammar.specs.Numbers.{digitValue, isHex, decimal, hex, pairs}
+use Rattle.grammar.specs.Parts.{bytes, apart, word, choice, either}
+use Rattle.grammar.specs.Numbers.{digitValue, isHex, decimal, pairs}
 use Rattle.grammar.proofs.Parts.{word-exact, behind-exact, ended-exact, both-exact, readAs-exact, such-exact}
 use Rattle.grammar.proofs.Choices.{Never, choice-exact, either-exact, never-choice, never-word, never-behind}
 use Rattle.grammar.proofs.Decimals.{decimal-exact, never-decimal}
 use Rattle.grammar.proofs.Hexadecimals.{hex-exact}
 use Rattle.grammar.proofs.Pairs.{pairs-exact}
-use Rattle.jobtext.specs.Written.{Value, Reference, Operand}
+use Rattle.jobtext.specs.Written.{Value, Operand}
 use Rattle.jobtext.specs.Fields.{
   space,
   comma,

@@ -1,30 +1,23 @@
 -- Jobs as they are lent, and what whole texts come to, computed on the definition: where the texts sit in the pool, and the
 -- worked text of document 01 at limits 100, 11 and 10, whose answers are the paper's. Assumes nothing.
 use Prim.Native.Nat.{ℕ}
-use Prim.Native.String.{String}
 use mathlib.Core.Path.{_≡_, refl}
 use mathlib.Core.Bool.{Bool, true, false}
-use mathlib.Core.List.{List, [], _∷_, _++_}
-use lib.ListN.{length}
+use mathlib.Core.List.{List, [], _∷_}
 use Rattle.model.specs.declared.CfRule.{CfRule}
 use Rattle.model.specs.declared.ConditionalOperand.{ConditionalOperand}
 use Rattle.model.specs.declared.DvOp.{DvOp}
 use Rattle.model.specs.declared.Priority.{Priority}
-use Rattle.model.specs.declared.Range.{Range}
-use Rattle.model.specs.declared.Rgb.{Rgb}
-use Rattle.model.specs.declared.Rule.{Rule}
 use Rattle.model.specs.declared.SheetName.{SheetName}
-use Rattle.model.specs.declared.Span.{Span}
 use Rattle.model.specs.Run.{Mark, RegionState}
 use Rattle.model.specs.Sheet.{CellColumns}
 use Rattle.model.specs.Answer.{Result, answer, refusal, refused}
 use Rattle.model.specs.Job.{Job, rulesOf}
 use Rattle.model.proofs.Computing.{jobs}
 use Rattle.grammar.specs.Parts.{bytes}
-use Rattle.jobtext.specs.Written.{JobText}
 use Rattle.jobtext.specs.Read.{ReadResult, read}
 use Rattle.jobtext.specs.Laid.{laid, decided}
-use Rattle.jobtext.proofs.Computing.{reading, laying}
+use Rattle.jobtext.proofs.Computing.{laying}
 use Rattle.jobtext.proofs.WorkedText.{lines, workedText, workedWith}
 
 -- ---- the pool

@@ -1,7 +1,7 @@
 -- What goes to the pool is at most half as long as the text that it is read from. Assumes nothing.
-use Prim.Native.Nat.{ℕ, zero, suc, _+_, _*_, _≤_, _<_}
-use mathlib.Core.Path.{_≡_, refl, sym, ap, _∙_}
-use mathlib.Core.List.{List, [], _∷_, _++_}
+use Prim.Native.Nat.{ℕ, zero, suc, _+_, _*_, _≤_}
+use mathlib.Core.Path.{_≡_, refl}
+use mathlib.Core.List.{List, [], _∷_}
 use mathlib.Core.Bool.{Bool, true, false}
 use mathlib.Core.Option.{Option, none, some}
 use native.Mathlib.Omega.{arith}
@@ -10,7 +10,6 @@ use Rattle.model.specs.declared.ConditionalComparison.{ConditionalComparison}
 use Rattle.model.specs.declared.DvOp.{DvOp}
 use Rattle.model.specs.declared.Rgb.{Rgb}
 use Rattle.model.specs.Comparison.{usesSecond}
-use Rattle.grammar.specs.Gram.{Gram}
 use Rattle.grammar.specs.Parts.{bytes, timesText, timesOk}
 use Rattle.grammar.specs.Numbers.{pairsText}
 use Rattle.jobtext.specs.Written.{Value, CellLine, Reference, Operand, Kind, RuleLine}

@@ -3,17 +3,9 @@
 use Prim.Native.Nat.{ℕ, _-_}
 use Prim.Native.String.{String}
 use mathlib.Core.Path.{_≡_, refl}
-use mathlib.Core.Bool.{Bool, true, false}
 use mathlib.Core.List.{List, [], _∷_, _++_}
-use mathlib.Core.Option.{Option, none, some}
-use lib.ListN.{length, replicate, take}
-use Rattle.model.specs.declared.CellCoordinate.{CellCoordinate}
-use Rattle.model.specs.declared.DvOp.{DvOp}
-use Rattle.model.specs.declared.Priority.{Priority}
-use Rattle.model.specs.declared.Range.{Range}
-use Rattle.model.specs.declared.Rgb.{Rgb}
+use lib.ListN.{length, take}
 use Rattle.grammar.specs.Parts.{bytes}
-use Rattle.jobtext.specs.Written.{Value, CellLine, Reference, Operand, Kind, RuleLine, JobText}
 use Rattle.jobtext.specs.Read.{ReadResult, read}
 use Rattle.jobtext.proofs.Computing.{reading}
 use Rattle.jobtext.proofs.WorkedText.{lines, workedText, workedWith}

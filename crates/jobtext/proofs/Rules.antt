@@ -1,12 +1,11 @@
 -- The grammar of a rule line is exact. Assumes nothing.
-use Prim.Native.Nat.{ℕ, _≤_, _<_}
+use Prim.Native.Nat.{ℕ}
 use mathlib.Core.Path.{_≡_, refl}
 use mathlib.Core.Logic.{_⊎_, inl, inr}
 use mathlib.Core.Bool.{Bool, true, false}
-use mathlib.Core.List.{List, [], _∷_}
+use mathlib.Core.List.{List}
 use native.Mathlib.Omega.{arith}
 use lib.Dec.{T}
-use Rattle.model.specs.declared.DvOp.{DvOp}
 use Rattle.model.specs.declared.Rgb.{Rgb}
 use Rattle.model.specs.Comparison.{usesSecond}
 use Rattle.grammar.specs.Gram.{Gram, Exactly}
@@ -14,29 +13,9 @@ use Rattle.grammar.specs.Parts.{bytes, apart, behind, choice}
 use Rattle.grammar.proofs.Parts.{behind-exact, following-exact, both-exact, readAs-exact, only-exact}
 use Rattle.grammar.proofs.Choices.{Never, choice-exact, either-exact, never-choice, never-behind}
 use Rattle.grammar.proofs.Decimals.{decimal-exact}
-use Rattle.jobtext.specs.Written.{Operand, Kind, RuleLine}
+use Rattle.jobtext.specs.Written.{Operand, Kind}
 use Rattle.jobtext.specs.Fields.{space}
-use Rattle.jobtext.specs.Rules.{
-  secondIf,
-  cellIsT,
-  cellIs,
-  scale2,
-  scale3,
-  bar,
-  rankT,
-  rank,
-  mean,
-  same,
-  exprT,
-  expr,
-  kindT,
-  toKind,
-  ofKind,
-  kind,
-  toRule,
-  ofRule,
-  ruleLine,
-}
+use Rattle.jobtext.specs.Rules.{secondIf, cellIs, scale2, scale3, bar, rankT, rank, mean, same, exprT, expr, kindT, toKind, ofKind, kind, toRule, ofRule, ruleLine}
 use Rattle.jobtext.proofs.Fields.{
   row-exact,
   col-exact,

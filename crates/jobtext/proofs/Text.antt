@@ -1,13 +1,9 @@
 -- The grammar of the whole job text is exact. Assumes nothing.
-use Prim.Native.Nat.{ℕ, _≤_, _<_}
-use mathlib.Core.Path.{_≡_, refl, sym, ap, _∙_}
-use mathlib.Core.List.{List, [], _∷_}
+use mathlib.Core.Path.{_≡_, refl}
 use native.Mathlib.Omega.{arith}
-use lib.ListN.{length}
-use Rattle.grammar.specs.Gram.{Gram, Exactly}
+use Rattle.grammar.specs.Gram.{Exactly}
 use Rattle.grammar.specs.Parts.{bytes, following}
 use Rattle.grammar.proofs.Parts.{behind-exact, following-exact, both-exact, readAs-exact, times-exact, times-length}
-use Rattle.jobtext.specs.Written.{CellLine, RuleLine, JobText}
 use Rattle.jobtext.specs.Fields.{space, lineFeed}
 use Rattle.jobtext.specs.Rules.{ruleLine}
 use Rattle.jobtext.specs.Text.{

@@ -3,15 +3,13 @@
 use Prim.Native.Nat.{ℕ}
 use Prim.Native.String.{String}
 use mathlib.Core.Path.{_≡_, refl}
-use mathlib.Core.Bool.{Bool, true, false}
+use mathlib.Core.Bool.{true, false}
 use mathlib.Core.List.{List, [], _∷_, _++_}
-use lib.ListN.{length}
 use Rattle.model.specs.declared.CellCoordinate.{CellCoordinate}
 use Rattle.model.specs.declared.Priority.{Priority}
 use Rattle.model.specs.declared.Range.{Range}
-use Rattle.model.specs.declared.Rgb.{Rgb}
 use Rattle.grammar.specs.Parts.{bytes}
-use Rattle.jobtext.specs.Written.{Value, CellLine, Operand, Kind, RuleLine, JobText}
+use Rattle.jobtext.specs.Written.{Value, CellLine, Kind, JobText}
 use Rattle.jobtext.specs.Text.{job}
 use Rattle.jobtext.specs.Read.{ReadResult, read}
 use Rattle.jobtext.proofs.Computing.{reading}

@@ -19,7 +19,7 @@ use Rattle.model.specs.Sheet.{CellColumns}
 use Rattle.model.specs.Answer.{Result, refusal, refused}
 use Rattle.model.specs.Job.{Job, Lengths, result}
 use Rattle.jobtext.specs.Written.{Value, CellLine, Reference, Operand, Kind, RuleLine, JobText}
-use Rattle.jobtext.specs.Read.{ReadResult, read}
+use Rattle.jobtext.specs.Read.{ReadResult}
 
 -- the text bs at u in the pool
 abbrev pub spanAt : ℕ → List ℕ → Span

@@ -1,12 +1,11 @@
 -- Demand 1 of the definition: every column is 0 from end to end after a refusal, holds the whole result else, and keeps its length.
 -- Assumes nothing.
-use Prim.Native.Nat.{ℕ, _+_, _≤_}
+use Prim.Native.Nat.{ℕ, _≤_}
 use native.Mathlib.Omega.{arith}
 use mathlib.Core.Path.{_≡_, refl, sym, ap, _∙_}
-use mathlib.Core.Logic.{_⊎_, inl, inr, ⊎-elim}
+use mathlib.Core.Logic.{_⊎_, ⊎-elim}
 use mathlib.Core.Bool.{Bool, true, false, cond, _||_}
-use mathlib.Core.List.{List, []}
-use mathlib.Core.Option.{Option, none, some}
+use mathlib.Core.Option.{none, some}
 use lib.Dec.{ltb}
 use lib.ListN.{length, replicate, length-replicate}
 use borrow.Author.Tests.{ltb-false}
@@ -14,7 +13,7 @@ use Rattle.model.specs.Ratio.{zeroF}
 use Rattle.model.specs.Run.{Mark, RegionState}
 use Rattle.model.specs.Answer.{Summary, Result, refusal, refused, answer, answered}
 use Rattle.model.specs.Job.{Job, Lengths, markSpace, regionCount, cellCount, spaceShort, refuseIf, sheetOf, rulesOf, runOf, result}
-use Rattle.model.specs.Columns.{Columns, written, columnsOf}
+use Rattle.model.specs.Columns.{written, columnsOf}
 use Rattle.laws.specs.Demands.{Answered, Roomy, reached, zeros, lengthsOf, DemandOne}
 use Rattle.laws.proofs.Lengths.{run-states, regions-length, column-length, column-none}
 use Rattle.laws.proofs.Results.{WholeJob, Refused, result-is}

@@ -4,18 +4,15 @@ use Prim.Native.Nat.{ℕ, _+_, _-_, _*_, _^_, _≤_, _<_}
 use native.Mathlib.Omega.{arith}
 use native.Mathlib.Decide.{decLe, ℕ-discrete}
 use mathlib.Core.Path.{_≡_, subst₂}
-use mathlib.Core.Logic.{_⊎_, inl, inr, ⊎-elim, _↔_}
-use mathlib.Core.Bool.{cond}
+use mathlib.Core.Logic.{_⊎_, inl, inr, ⊎-elim}
 use mathlib.Core.Option.{none}
-use lib.Dec.{leb}
 use lib.ListN.{length}
 use borrow.Author.Tests.{le-leb}
-use Rattle.charging.specs.declared.Counter.{Counter}
 use Rattle.charging.specs.declared.Charged.{Charged}
-use Rattle.charging.specs.Charge.{counter, spend, total}
-use Rattle.model.specs.Answer.{Result, answer, answered, settled, limited}
-use Rattle.model.specs.Job.{Job, Lengths, markSpace, rulesOf, cellCount, regionCount, sheetOf, runOf, result}
-use Rattle.laws.specs.Demands.{WellFormed, Roomy, Answered, reached, markCount, Enough, duplicateAreas, DemandThree, DemandThreeHolds}
+use Rattle.charging.specs.Charge.{counter, spend}
+use Rattle.model.specs.Answer.{answer, answered, settled, limited}
+use Rattle.model.specs.Job.{Job, Lengths, rulesOf, cellCount, regionCount, sheetOf, runOf}
+use Rattle.laws.specs.Demands.{WellFormed, Roomy, Answered, reached, Enough, duplicateAreas, DemandThreeHolds}
 use Rattle.laws.proofs.Spending.{spend-over, spend-enough}
 use Rattle.laws.proofs.Bound.{AtMost, run-bound}
 use Rattle.laws.proofs.Lengths.{cells-length, regions-length}

@@ -6,7 +6,6 @@ use mathlib.Core.List.{List, [], _∷_, map}
 use mathlib.Core.Option.{Option, none, some}
 use lib.Dec.{leb, ltb, eqb}
 use lib.Ieee.{Float, nan, inf, fin, binary64, toBits}
-use Rattle.model.specs.declared.Span.{Span}
 use Rattle.model.specs.declared.Cell.{Cell}
 use Rattle.model.specs.declared.CellCoordinate.{CellCoordinate}
 use Rattle.model.specs.declared.CellValue.{CellValue}

@@ -9,7 +9,7 @@ use Rattle.model.specs.declared.CfRule.{CfRule}
 use Rattle.model.specs.declared.Rgb.{Rgb}
 use Rattle.grammar.specs.Gram.{Got}
 use Rattle.grammar.specs.Gram.Got.{got, bad}
-use Rattle.grammar.specs.Parts.{then, bytes, either}
+use Rattle.grammar.specs.Parts.{bytes, either}
 use Rattle.grammar.specs.Numbers.{decimalP}
 use Rattle.fields.specs.declared.Field.{Field}
 use Rattle.fields.specs.Field.{fieldOf, eitherOf}

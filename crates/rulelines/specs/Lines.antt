@@ -2,21 +2,20 @@
 -- Assumes nothing.
 use Prim.Native.Nat.{ℕ, _+_}
 use mathlib.Core.Bool.{Bool, true, false}
-use mathlib.Core.List.{List, [], _∷_}
-use mathlib.Core.Option.{Option, none, some}
+use mathlib.Core.List.{List}
+use mathlib.Core.Option.{Option}
 use mathlib.Core.Path.{_≡_}
 use lib.Ieee.{binary64, ofBits}
 use lib.ListN.{length}
 use lib.Seq.{sets}
 use Rattle.model.specs.declared.ConditionalOperand.{ConditionalOperand}
 use Rattle.model.specs.declared.Priority.{Priority}
-use Rattle.model.specs.declared.Range.{Range}
 use Rattle.model.specs.declared.Rgb.{Rgb}
 use Rattle.grammar.specs.Gram.{Got}
 use Rattle.grammar.specs.Gram.Got.{got, bad}
-use Rattle.jobtext.specs.Written.{Reference, Operand, Kind, RuleLine}
+use Rattle.jobtext.specs.Written.{Reference, Operand}
 use Rattle.fields.specs.declared.Field.{Field}
-use Rattle.jobtext.specs.Laid.{nameBytes, nameAt, referenceAt, operandBytes, operandAt, kindBytes, kindAt, ruleAt}
+use Rattle.jobtext.specs.Laid.{nameBytes, nameAt, referenceAt, operandBytes, operandAt}
 use Rattle.rulelines.specs.declared.parts.ReadRgb.{ReadRgb}
 use Rattle.rulelines.specs.declared.parts.ReadPriority.{ReadPriority}
 use Rattle.rulelines.specs.declared.operand.ReadName.{ReadName}

@@ -4,11 +4,11 @@ use Prim.Native.Nat.{ℕ, _+_, _≤_}
 use native.Mathlib.Omega.{arith}
 use mathlib.Core.Path.{_≡_, refl, sym, ap, _∙_}
 use mathlib.Core.Bool.{Bool, true, false, cond}
-use mathlib.Core.List.{List, [], _∷_, _++_}
+use mathlib.Core.List.{List, [], _∷_}
 use lib.ListN.{length, length-append}
 use Rattle.charging.specs.declared.Counter.{Counter}
 use Rattle.charging.specs.declared.Charged.{Charged}
-use Rattle.charging.specs.Charge.{Charge, andThen, spend}
+use Rattle.charging.specs.Charge.{andThen, spend}
 use Rattle.model.specs.declared.Rule.{Rule}
 use Rattle.model.specs.Sheet.{Sheet}
 use Rattle.model.specs.Run.{Mark, RegionState, Run, IndexedRule, marksFrom, unmarked, step, followedBy, runFrom}

@@ -2,8 +2,8 @@
 -- and the counts stay small. Assumes nothing.
 use Prim.Native.Nat.{ℕ, _+_, _*_, _≤_, _<_}
 use native.Mathlib.Omega.{arith}
-use mathlib.Core.Path.{_≡_, refl, sym, ap, _∙_}
-use mathlib.Core.List.{List, [], _∷_}
+use mathlib.Core.Path.{_≡_, refl, ap, _∙_}
+use mathlib.Core.List.{List}
 use lib.ListN.{length, getD, drop, replicate}
 use lib.Seq.{drop-length}
 use lib.Ieee.{Float}
@@ -11,7 +11,6 @@ use Rattle.charging.specs.declared.Charged.{Charged}
 use Rattle.model.specs.declared.Rule.{Rule}
 use Rattle.model.specs.declared.Rules.{Rules}
 use Rattle.model.specs.Ratio.{zeroF}
-use Rattle.model.specs.Run.{IndexedRule}
 use Rattle.order.specs.Order.{orderOf, orderedRules}
 use Rattle.order.proofs.Laws.{taken-length, taken-next, entry-within}
 use Rattle.emit.specs.Emit.{MarkColumns, BarColumns}

@@ -1,21 +1,18 @@
 -- A job that was read fits in the memory of a whole job: at most 1,024 cells and regions, and its texts in 32,768 bytes, since each byte
 -- of a text takes two of a job text. Assumes nothing.
-use Prim.Native.Nat.{ℕ, zero, suc, _+_, _*_, _≤_}
-use mathlib.Core.Path.{_≡_, refl, sym, ap, _∙_}
+use Prim.Native.Nat.{ℕ, _+_, _*_, _≤_}
+use mathlib.Core.Path.{_≡_, refl}
 use mathlib.Core.Bool.{Bool, true, false, _||_}
-use mathlib.Core.List.{List, [], _∷_, _++_}
+use mathlib.Core.List.{List}
 use native.Mathlib.Omega.{arith}
 use lib.Dec.{ltb}
 use lib.ListN.{length, length-append}
 use borrow.Author.Tests.{ltb-false}
-use Rattle.grammar.specs.Gram.{Gram}
-use Rattle.grammar.specs.Parts.{bytes, timesText}
-use Rattle.grammar.specs.Numbers.{pairsText}
-use Rattle.jobtext.specs.Written.{CellLine, RuleLine, JobText}
+use Rattle.grammar.specs.Parts.{bytes}
+use Rattle.jobtext.specs.Written.{JobText}
 use Rattle.jobtext.specs.Fields.{textField}
-use Rattle.jobtext.specs.Rules.{ruleLine}
-use Rattle.jobtext.specs.Text.{Head, head, cellLine, regionLine, body, bodyT, ofJob, job}
-use Rattle.jobtext.specs.Read.{ReadResult, maxText, over, read}
+use Rattle.jobtext.specs.Text.{Head, head, body, bodyT, ofJob, job}
+use Rattle.jobtext.specs.Read.{ReadResult, over, read}
 use Rattle.jobtext.specs.Laid.{cellBytes, ruleBytes, laid}
 use Rattle.jobtext.proofs.Lengths.{pairs-length, cells-half, rules-half}
 use Rattle.jobtext.proofs.Reading.{Readable, read-accepted}

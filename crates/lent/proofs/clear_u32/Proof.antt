@@ -2,7 +2,6 @@
 -- A store of 0 at i makes them one more. The measure is what is left of the length. Assumes nothing.
 use Prim.Native.Nat.{_-_}
 use native.Mathlib.Omega.{arith}
-use borrow.Author.Needs.{needs}
 use lib.ListN.{length, length-set}
 use Rattle.lent.proofs.Filling.{Filled, filled-begun, filled-long, filled-more, filled-done}
 use Rattle.lent.proofs.clear_u32.Statement.{statement}
