@@ -24,6 +24,7 @@ pub mod answer;
 pub mod bench_jobs;
 pub mod carry;
 pub mod checks;
+pub mod clock;
 pub mod command;
 pub mod curated;
 pub mod decide;
