@@ -2,6 +2,10 @@
  *
  * Link with libexports.a (`rt staticlib exports`). No call here keeps state, takes memory or stops the program, and all may be
  * made from any thread, given the stack that wavendiru_whole_job names.
+ *
+ * Floating point: wavendiru_whole_job and wavendiru_ratio rest on the state of the thread that calls them. The caller owes rounding to
+ * nearest with ties to even, and subnormal numbers kept: in MXCSR RC = 00, FTZ = 0, DAZ = 0. Every C program on x86-64 Linux starts so;
+ * fesetround, -ffast-math at the link, or a library that sets FTZ or DAZ can change it. In another state results differ (tests/c/env).
  */
 #ifndef WAVENDIRU_H
 #define WAVENDIRU_H
@@ -19,7 +23,7 @@ extern "C" {
 /* The bytes of the longest report that any job can have: a report buffer of this length is always long enough. */
 #define WAVENDIRU_LONGEST_REPORT 42979
 
-/* The bytes of stack that wavendiru_whole_job needs on x86-64. */
+/* The bytes of stack that wavendiru_whole_job needs on x86-64. Measured; tests/c/stack fails where it measures more. */
 #define WAVENDIRU_STACK 208832
 
 /* The number of a report, the first field of its second line. Behind it stand place, count and actual; S is the job's starting count.
@@ -45,14 +49,15 @@ enum wavendiru_number {
  * Result: the report's length in bytes, or 0 if the report is longer than report_len. A refused job has a report too, of two lines.
  * Written: every one of the report_len bytes, the report first and 0 in all after it; where the result is 0, all are 0. A report is ASCII
  * text, its lines end in LF; one that fills its buffer exactly has no 0 behind it.
- * Inputs: any bytes and any length of text, any length of report, whatever the report's bytes held.
+ * Inputs: any bytes, any lengths below 2^63 (no object in memory is longer), whatever the report's bytes held.
  * The caller owes:
  *   - text_len readable bytes at text, which nothing changes before the call returns;
  *   - report_len writable bytes at report, which nothing else reads or writes before the call returns;
  *   - that no byte is in both;
  *   - lengths below 2^63. A pointer whose length is 0 is not followed, and may be null;
- *   - 208,832 bytes of free stack (measured by tests/c/stack, for x86-64; WAVENDIRU_STACK). The call does not recurse. With less it dies
- *     at the guard page below the stack, so the stack needs to have one.
+ *   - the floating-point state said at the top;
+ *   - WAVENDIRU_STACK bytes of free stack. The call does not recurse. With less it dies at the guard page below the stack, so the stack
+ *     needs to have one.
  */
 size_t wavendiru_whole_job(const uint8_t *text, size_t text_len, uint8_t *report, size_t report_len);
 
@@ -62,7 +67,7 @@ size_t wavendiru_whole_job(const uint8_t *text, size_t text_len, uint8_t *report
  * to 0..1, times 1,000,000, and rounded to a whole number with halves away from zero; 0 if the quotient is not a number. Always at
  * most 1,000,000.
  * Inputs: any three doubles, not-a-number, infinities, -0 and subnormal numbers too.
- * The caller owes: nothing.
+ * The caller owes: the floating-point state said at the top. Rounding upward, the ratio of 41 between 0 and 640 is 64,063, not 64,062.
  */
 uint32_t wavendiru_ratio(double value, double minimum, double maximum);
 
@@ -70,7 +75,7 @@ uint32_t wavendiru_ratio(double value, double minimum, double maximum);
  *
  * Result: (start * 1,000,000 + (end - start) * ppm + 500,000) / 1,000,000 in whole numbers with a sign, the quotient cut toward zero
  * and then held to 0..255.
- * Inputs: any start, end and ppm, also a ppm above 1,000,000.
+ * Inputs: any start, end and ppm, also a ppm above 1,000,000. Whole numbers only: the floating-point state has no part in it.
  * The caller owes: nothing.
  */
 uint8_t wavendiru_channel(uint8_t start, uint8_t end, uint32_t ppm);

@@ -3,7 +3,7 @@
  *   needed    the call is made on smaller and smaller stacks, down to the least on which it returns; below each lies memory that cannot be
  *             touched
  * Each call is made in a process of its own that has made none before, so what the loader takes to bind memset and memcpy at their first
- * call is in the figures; so is the frame of the function that makes the call.
+ * call is in the figures; so is the frame of the function that makes the call. Status: 0 if the most is not above WAVENDIRU_STACK.
  */
 #define _GNU_SOURCE
 #include <errno.h>
@@ -168,6 +168,8 @@ int main(int argc, char **argv)
             by = argv[i];
         }
     }
-    printf("most: %zu bytes (%s)\n", most, by);
-    return most == 0;
+    if (most > WAVENDIRU_STACK)
+        printf("stack_use: WAVENDIRU_STACK of the header is too small\n");
+    printf("most: %zu bytes (%s); WAVENDIRU_STACK: %d\n", most, by, WAVENDIRU_STACK);
+    return most == 0 || most > WAVENDIRU_STACK;
 }
