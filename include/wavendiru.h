@@ -23,8 +23,10 @@ extern "C" {
 /* The bytes of the longest report that any job can have: a report buffer of this length is always long enough. */
 #define WAVENDIRU_LONGEST_REPORT 42979
 
-/* The bytes of stack that wavendiru_whole_job needs on x86-64. Measured; tests/c/stack fails where it measures more. */
-#define WAVENDIRU_STACK 208832
+/* The bytes of stack that wavendiru_whole_job needs on x86-64, with what the loader takes to bind memcpy and memset at their first call.
+ * Measured; tests/c/stack fails where it measures more.
+ */
+#define WAVENDIRU_STACK 208896
 
 /* The number of a report, the first field of its second line. Behind it stand place, count and actual; S is the job's starting count.
  * A refusal has no marks. 1, 5 and 6 are refusals of lent columns; no job text has them.
