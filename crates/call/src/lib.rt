@@ -1,17 +1,21 @@
 // The call over lent columns: all that is lent for writing holds the complete result, or zeros.
+mod columns;
+mod marks;
+mod rules;
+
+use crate::columns::clear_columns;
+use crate::columns::settle_columns;
 use checks::Checked;
 use model::Answer;
 use model::Rules;
 use model::Span;
-use settling::clear_columns;
-use settling::settle_columns;
 ghost use mathlib.Core.Path.{_≡_};
 ghost use Rattle.model.specs.Answer.{summary};
 ghost use Rattle.model.specs.Job.{result};
 ghost use Rattle.model.specs.Columns.{columnsOf};
 ghost use Rattle.laws.specs.Demands.{lengthsOf};
 ghost use Rattle.checks.specs.Checked.{cellColumns, jobOf};
-ghost use Rattle.settling.specs.Settling.{lent};
+ghost use Rattle.turns.specs.Lent.{lent};
 
 // Port of resolve_conditional_paints (conditional.rs) over columns: the checks, the rules, and what becomes of them under the limit.
 pub fn resolve_conditional_paints(
@@ -84,7 +88,7 @@ pub fn resolve_conditional_paints(
         lent::clear_f64(scratch);
         return answer;
     }
-    let ran = runs::run(
+    let ran = rules::run(
         rules,
         start,
         limit,

@@ -1,15 +1,11 @@
--- The answer by what the rules came to, and the columns that are lent for writing as one record. Assumes nothing.
-use Prim.Native.Nat.{ℕ, min}
+-- The answer by what the rules came to, and whether it is one or a refusal. Assumes nothing.
+use Prim.Native.Nat.{ℕ}
 use mathlib.Core.Bool.{Bool, false, cond}
-use mathlib.Core.List.{List}
 use lib.Dec.{leb, eqb}
-use lib.ListN.{length, replicate}
-use lib.Ieee.{Float}
 use Rattle.charging.specs.declared.Charged.{Charged}
 use Rattle.model.specs.declared.Answer.{Answer}
-use Rattle.model.specs.Answer.{Summary, refusal, answer}
-use Rattle.model.specs.Columns.{Columns}
-use Rattle.runs.specs.declared.Ran.{Ran}
+use Rattle.model.specs.Answer.{Summary, refusal, answer, summary}
+use Rattle.settling.specs.declared.Ran.{Ran}
 use Rattle.settling.specs.declared.Settled.{Settled}
 
 -- by what the charges came to, with space for so many marks
@@ -28,27 +24,11 @@ isAnswered s = eqb (s .number) 0
 abbrev pub refusedWith : Answer → Settled
 refusedWith a = record { answer = a; answered = false }
 
--- the shortest of the mark columns
-abbrev pub shortestOf : ℕ → ℕ → ℕ → ℕ → ℕ → ℕ
-shortestOf a b c d e = min a (min b (min c (min d e)))
+-- ---- both fields at once
 
--- the answer with the space of these mark columns
-abbrev pub settledOn : List ℕ → List ℕ → List ℕ → List ℕ → List ℕ → Ran → Summary
-settledOn a b c d e ran = settledAs (shortestOf (length a) (length b) (length c) (length d) (length e)) ran
+-- the answer in words of the definition, and whether the job is answered
+abbrev pub told : Settled → Summary × Bool
+told s = (summary (s .answer), s .answered)
 
--- a column as it is, or zeros
-abbrev pub keptIf : Bool → List ℕ → List ℕ
-keptIf keep l = cond keep l (replicate (length l) 0)
-
-abbrev pub lent : List ℕ → List ℕ → List ℕ → List ℕ → List ℕ → List ℕ → List ℕ → List Float → Columns
-lent regions rules kinds colours ppms barRules barPpms scratch =
-    record {
-      regions = regions;
-      rules = rules;
-      kinds = kinds;
-      colours = colours;
-      ppms = ppms;
-      barRules = barRules;
-      barPpms = barPpms;
-      scratch = scratch;
-    }
+abbrev pub settledTo : ℕ → Ran → Summary × Bool
+settledTo space ran = (settledAs space ran, isAnswered (settledAs space ran))

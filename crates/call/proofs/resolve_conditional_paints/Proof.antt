@@ -5,9 +5,9 @@ use denote.Ref.{now}
 use borrow.Author.Needs.{needs}
 use Rattle.laws.specs.Demands.{lengthsOf}
 use Rattle.checks.specs.Checked.{cellColumns, jobOf}
-use Rattle.settling.specs.Settling.{lent}
-use Rattle.call.proofs.Checked.{checked-fine}
-use Rattle.call.proofs.Answering.{
+use Rattle.turns.specs.Lent.{lent}
+use Rattle.turns.proofs.Checked.{checked-fine}
+use Rattle.turns.proofs.Answering.{
   lent-zeros,
   lent-same,
   marks-same,

@@ -1,4 +1,0 @@
-pub mod Marks
-pub mod States
-pub mod Turns
-pub mod MarkTurns

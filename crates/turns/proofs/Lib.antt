@@ -1,0 +1,10 @@
+pub mod Marks
+pub mod OutcomeTurns
+pub mod MarkTurns
+pub mod States
+pub mod Laws
+pub mod Saying
+pub mod Running
+pub mod Checked
+pub mod Settling
+pub mod Answering
