@@ -1,7 +1,7 @@
 -- What a rule says of one region, by the values that the columns give: a sheet's regions have no part in it, nor has the count of the
 -- region's key where the test is not of duplicates. Assumes nothing.
 use Prim.Native.Nat.{ℕ}
-use mathlib.Core.Path.{_≡_, refl}
+use mathlib.Core.Path.{_≡_, refl, sym}
 use mathlib.Core.Bool.{Bool, true, false}
 use mathlib.Core.List.{List, [], _∷_}
 use lib.ListN.{replicate}
@@ -13,17 +13,16 @@ use Rattle.model.specs.declared.ConditionalOperand.{ConditionalOperand}
 use Rattle.model.specs.declared.Outcome.{Outcome}
 use Rattle.model.specs.declared.Range.{Range}
 use Rattle.model.specs.declared.Reading.{Reading}
-use Rattle.model.specs.declared.Referenced.{Referenced}
 use Rattle.model.specs.declared.Rule.{Rule}
-use Rattle.model.specs.declared.SheetName.{SheetName}
 use Rattle.model.specs.declared.Span.{Span}
 use Rattle.model.specs.declared.Test.{Test}
 use Rattle.model.specs.Sheet.{CellAt, CellColumns, inRange}
 use Rattle.model.specs.Readings.{numericAt, keyAt}
-use Rattle.model.specs.References.{namesSheet, referenceCoordinate, numericReferenced, resolved}
+use Rattle.model.specs.References.{resolved}
 use Rattle.model.specs.Rule.{cellsIn, keys, times, verdict}
 use Rattle.model.specs.Run.{RegionState, outcome}
 use Rattle.cells.specs.Columns.{sheetWith}
+use Rattle.cells.proofs.Operands.{resolved-bare}
 use Rattle.ranges.specs.Turns.{sheetFrom}
 use Rattle.verdict.specs.Verdict.{firstOperand, secondOperand, verdictOn}
 use Rattle.verdict.proofs.Laws.{verdict-is}
@@ -73,23 +72,9 @@ verdictOn-foundFor (Test.Expression op p q fill) imported value first second fou
 module _ (cells : List CellAt) (pool : List ℕ) (name : Span) (regions : List CellCoordinate) where
   -- ---- an operand
 
-  name-alike : (n : SheetName) → namesSheet (sheetFrom cells regions pool name) n ≡ namesSheet (sheetWith cells pool name) n
-  unfolding namesSheet
-  name-alike SheetName.This = refl
-  name-alike (SheetName.Named t) = refl
-
-  referenced-alike : (r : Referenced)
-      → numericReferenced (sheetFrom cells regions pool name) r ≡ numericReferenced (sheetWith cells pool name) r
-  unfolding numericReferenced
-  referenced-alike (Referenced.At at) = refl
-  referenced-alike Referenced.Nowhere = refl
-
   resolved-alike : (range : Range) (at : CellCoordinate) (o : ConditionalOperand)
       → resolved (sheetFrom cells regions pool name) range at o ≡ resolved (sheetWith cells pool name) range at o
-  unfolding resolved referenceCoordinate
-  resolved-alike range at (ConditionalOperand.Literal x) = refl
-  resolved-alike range at (ConditionalOperand.Reference f) = rw (name-alike (f .sheet), referenced-alike)
-  resolved-alike range at ConditionalOperand.Unread = refl
+  resolved-alike range at o = sym (resolved-bare (sheetFrom cells regions pool name) range at o)
 
   -- ---- a region
 

@@ -1,6 +1,7 @@
 pub mod Computing
 pub mod Samples
 pub mod WorkedJob
+pub mod Spaces
 pub mod WorkedValues
 pub mod Refusals
 pub mod RefusalsByCharge

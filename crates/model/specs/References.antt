@@ -5,6 +5,7 @@ use mathlib.Core.Bool.{Bool, true, false, cond, not, _&&_, _||_}
 use mathlib.Core.List.{List}
 use lib.Dec.{leb}
 use lib.Ieee.{Float}
+use Rattle.model.specs.declared.Span.{Span}
 use Rattle.model.specs.declared.CellCoordinate.{CellCoordinate}
 use Rattle.model.specs.declared.Range.{Range}
 use Rattle.model.specs.declared.SheetName.{SheetName}
@@ -33,19 +34,20 @@ axis false target reference origin maximum = offsetAxis target reference origin 
 unfoldable pub sameName : List ℕ → List ℕ → Bool
 sameName a b = sameBytes a b || (ascii a && ascii b && sameLetters a b)
 
-unfoldable pub namesSheet : Sheet → SheetName → Bool
-namesSheet s This = true
-namesSheet s (Named t) = sameName (textAt (s .pool) t) (textAt (s .pool) (s .name))
+-- whether a reference's name is the sheet's, both as they stand in the pool
+unfoldable pub namesSheet : List ℕ → Span → SheetName → Bool
+namesSheet pool sheet This = true
+namesSheet pool sheet (Named t) = sameName (textAt pool t) (textAt pool sheet)
 
 unfoldable pub joined : Axis → Axis → Referenced
 joined (Axis.At row) (Axis.At col) = Referenced.At (record { row = row; col = col })
 joined (Axis.At row) Axis.Outside = Referenced.Nowhere
 joined Axis.Outside col = Referenced.Nowhere
 
--- the cell that a reference means from a target; the origin is the range's first cell
-unfoldable pub referenceCoordinate : Sheet → Range → CellCoordinate → A1Reference → Referenced
-referenceCoordinate s r target f =
-    cond (namesSheet s (f .sheet))
+-- the cell that a reference means from a target, on the sheet of this pool and name; the origin is the range's first cell
+unfoldable pub referenceCoordinate : List ℕ → Span → Range → CellCoordinate → A1Reference → Referenced
+referenceCoordinate pool sheet r target f =
+    cond (namesSheet pool sheet (f .sheet))
     (joined (axis (f .«row_absolute») (target .row) (f .row) (r .top) maxRow)
     (axis (f .«col_absolute») (target .col) (f .col) (r .left) maxCol))
     Referenced.Nowhere
@@ -60,7 +62,7 @@ literal x = cond (finite x) (Reading.Number x) Reading.Nothing
 -- what an operand reads as from a target
 unfoldable pub resolved : Sheet → Range → CellCoordinate → ConditionalOperand → Reading
 resolved s r target (Literal x) = literal x
-resolved s r target (Reference f) = numericReferenced s (referenceCoordinate s r target f)
+resolved s r target (Reference f) = numericReferenced s (referenceCoordinate (s .pool) (s .name) r target f)
 resolved s r target Unread = Reading.Nothing
 
 -- a non-finite literal counts as unread

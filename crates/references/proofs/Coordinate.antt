@@ -1,6 +1,6 @@
 -- The name, the axes and the cell of a reference, by the cases of the definition. Assumes nothing.
 use Prim.Native.Nat.{ℕ, _+_, _-_, _<_, _≤_, _^_}
-use mathlib.Core.Path.{_≡_, refl, sym, ap, _∙_}
+use mathlib.Core.Path.{_≡_, refl, ap, _∙_}
 use mathlib.Core.Bool.{Bool, true, false, cond, _&&_, and-true, and-false}
 use mathlib.Core.List.{List}
 use native.Mathlib.Omega.{arith}
@@ -11,9 +11,8 @@ use Rattle.model.specs.declared.A1Reference.{A1Reference}
 use Rattle.model.specs.declared.CellCoordinate.{CellCoordinate}
 use Rattle.model.specs.declared.Range.{Range}
 use Rattle.model.specs.declared.Referenced.{Referenced}
-use Rattle.model.specs.declared.SheetName.{SheetName}
 use Rattle.model.specs.declared.Span.{Span}
-use Rattle.model.specs.Sheet.{Sheet, maxRow, maxCol, textAt}
+use Rattle.model.specs.Sheet.{maxRow, maxCol}
 use Rattle.model.specs.Readings.{ascii, sameBytes, sameLetters}
 use Rattle.model.specs.References.{offsetAxis, axis, sameName, namesSheet, joined, referenceCoordinate}
 
@@ -31,14 +30,6 @@ module _ (a b : List ℕ) where
   pub name-letters : sameBytes a b ≡ false → sameLetters a b ≡ true → ascii a && ascii b ≡ sameName a b
   unfolding sameName
   name-letters e h = rw (e, h, and-true)
-
--- a sheet's own name in its own pool
-pub name-of : (s : Sheet) {pool : List ℕ} {sheet : Span} → s .pool ≡ pool → s .name ≡ sheet → (t : Span)
-    → sameName (textAt pool t) (textAt pool sheet) ≡ namesSheet s (SheetName.Named t)
-unfolding namesSheet
-name-of s {pool} {sheet} p n t =
-    ap (λ (bytes : List ℕ). sameName (textAt bytes t) (textAt bytes sheet)) (sym p)
-    ∙ ap (λ (name : Span). sameName (textAt (s .pool) t) (textAt (s .pool) name)) (sym n)
 
 -- ---- axes
 
@@ -60,14 +51,14 @@ axis-small false t r o h v e = let l : v ≤ maxCol = offset-within t r o maxCol
 
 -- ---- the cell
 
-module _ (s : Sheet) (r : Range) (target : CellCoordinate) (f : A1Reference) where
-  pub coordinate-here : {row col : Axis} → namesSheet s (f .sheet) ≡ true
+module _ (pool : List ℕ) (sheet : Span) (r : Range) (target : CellCoordinate) (f : A1Reference) where
+  pub coordinate-here : {row col : Axis} → namesSheet pool sheet (f .sheet) ≡ true
       → row ≡ axis (f .«row_absolute») (target .row) (f .row) (r .top) maxRow
       → col ≡ axis (f .«col_absolute») (target .col) (f .col) (r .left) maxCol
-      → joined row col ≡ referenceCoordinate s r target f
+      → joined row col ≡ referenceCoordinate pool sheet r target f
   unfolding referenceCoordinate
   coordinate-here {row} {col} h p q = rw h (ap (λ (a : Axis). joined a col) p ∙ ap (joined _) q)
 
-  pub coordinate-elsewhere : namesSheet s (f .sheet) ≡ false → Referenced.Nowhere ≡ referenceCoordinate s r target f
+  pub coordinate-elsewhere : namesSheet pool sheet (f .sheet) ≡ false → Referenced.Nowhere ≡ referenceCoordinate pool sheet r target f
   unfolding referenceCoordinate
   coordinate-elsewhere h = rw h

@@ -12,7 +12,6 @@ use readings::text::same_letters;
 use readings::text::text_at;
 ghost use Prim.Native.Nat.{ℕ, _<_, _^_};
 ghost use mathlib.Core.Path.{_≡_};
-ghost use Rattle.model.specs.Sheet.{Sheet};
 ghost use Rattle.model.specs.References.{offsetAxis, axis as axisOf, sameName, namesSheet, joined as joinedOf, referenceCoordinate};
 
 const MAX_WORKSHEET_ROW: u32 = 1_048_575;
@@ -58,7 +57,7 @@ pub fn same_name(a: &[u8], b: &[u8]) -> bool
 
 // Whether a reference's name is this sheet's.
 pub fn names_sheet(name: SheetName, pool: &[u8], sheet: Span) -> bool
-    ensures { λ r. ⌜ ((s : Sheet) → s .pool ≡ now (pool .entry) → s .name ≡ sheet → r ≡ namesSheet s name) ⌝ }
+    ensures { λ r. ⌜ r ≡ namesSheet (now (pool .entry)) sheet name ⌝ }
 {
     match name {
         SheetName::This => true,
@@ -91,7 +90,7 @@ pub fn conditional_reference_coordinate(
     pool: &[u8],
     sheet: Span,
 ) -> Referenced
-    ensures { λ r. ⌜ ((s : Sheet) → s .pool ≡ now (pool .entry) → s .name ≡ sheet → r ≡ referenceCoordinate s range target reference) ⌝ }
+    ensures { λ r. ⌜ r ≡ referenceCoordinate (now (pool .entry)) sheet range target reference ⌝ }
 {
     let name = reference.sheet;
     let top = range.top;

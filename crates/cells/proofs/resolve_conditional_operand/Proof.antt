@@ -1,5 +1,5 @@
 -- `cells::resolve_conditional_operand` meets its contract, by the cases of proofs/Operands.antt. Assumes nothing.
-use mathlib.Core.Path.{refl, sym, _∙_}
+use mathlib.Core.Path.{sym, _∙_}
 use Rattle.cells.proofs.Operands.{resolved-literal, resolved-at, resolved-nowhere, resolved-unread}
 use borrow.Author.Needs.{needs}
 use Rattle.cells.proofs.resolve_conditional_operand.Statement.{statement}
@@ -37,13 +37,13 @@ returns-2 c =
     let met = c .before .before .before .before in
     c .numeric-at .ensures
     ∙ resolved-at _ _ _ (met .before .before .operand2 .given .1)
-    (sym (met .conditional-reference-coordinate .ensures _ refl refl) ∙ c .before .before .at .given .1)
+    (sym (met .conditional-reference-coordinate .ensures) ∙ c .before .before .at .given .1)
 
 returns-3 : tie.Need-returns-3
 returns-3 c =
     let met = c .before .before in
     resolved-nowhere _ _ _ (met .before .before .operand2 .given .1)
-    (sym (met .conditional-reference-coordinate .ensures _ refl refl) ∙ c .enum-told .given .1)
+    (sym (met .conditional-reference-coordinate .ensures) ∙ c .enum-told .given .1)
 
 returns-4 : tie.Need-returns-4
 returns-4 c = resolved-unread _ _ _ (c .enum-told2 .given .1)

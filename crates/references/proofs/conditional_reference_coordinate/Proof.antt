@@ -27,14 +27,14 @@ joined-requires : tie.Need-joined-requires
 joined-requires c κs v e = axis-small _ _ _ _ (search needs) v (sym (c .axis2 .ensures) ∙ e)
 
 returns : tie.Need-returns
-returns c s p n =
+returns c =
     let named = c .before .before .before .before .before in
     c .joined .ensures
-    ∙ coordinate-here s _ _ _ (sym (named .before .names-sheet .ensures s p n) ∙ named .if1 .taken)
+    ∙ coordinate-here _ _ _ _ _ (sym (named .before .names-sheet .ensures) ∙ named .if1 .taken)
     (c .before .before .before .before .axis .ensures) (c .before .axis2 .ensures)
 
 returns-2 : tie.Need-returns-2
-returns-2 c s p n = coordinate-elsewhere s _ _ _ (sym (c .before .names-sheet .ensures s p n) ∙ c .if1 .left)
+returns-2 c = coordinate-elsewhere _ _ _ _ _ (sym (c .before .names-sheet .ensures) ∙ c .if1 .left)
 
 pub conditional-reference-coordinate-spec : {M : Type 1} → statement M
 conditional-reference-coordinate-spec =

@@ -1,7 +1,6 @@
 -- `references::names_sheet` meets its contract. Assumes nothing.
 use mathlib.Core.Path.{_∙_}
 use Rattle.model.specs.References.{namesSheet}
-use Rattle.references.proofs.Coordinate.{name-of}
 use borrow.Author.Needs.{needs}
 use Rattle.references.proofs.names_sheet.Statement.{statement}
 use Rattle.references.proofs.names_sheet.Tie as tie
@@ -23,12 +22,13 @@ same-name-requires c κs = search needs
 
 returns : tie.Need-returns
 unfolding namesSheet
-returns c s p n = rw (c .enum-told .given .1)
+returns c = rw (c .enum-told .given .1)
 
 returns-2 : tie.Need-returns-2
-returns-2 c s p n =
+unfolding namesSheet
+returns-2 c =
     rw (c .before .before .before .before .name .given .1)
-    (c .same-name .ensures ∙ rw (c .before .before .text-at .ensures, c .before .text-at2 .ensures) (name-of s p n _))
+    (c .same-name .ensures ∙ rw (c .before .before .text-at .ensures, c .before .text-at2 .ensures))
 
 pub names-sheet-spec : {M : Type 1} → statement M
 names-sheet-spec =
