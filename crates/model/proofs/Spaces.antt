@@ -1,5 +1,5 @@
--- The worked job of document 01 under limit 11 by the space that is lent, computed: mark columns, bar columns and scratch one element short,
--- exact and longer. Too little space is told, 9 for marks and 6 for the others, and leaves zeros from end to end. Assumes nothing.
+-- The worked job of document 01 under limit 11 by the space that is lent, computed: mark columns, bar columns and scratch one element
+-- short, exact and longer. Too little space is told, 9 for marks and 6 for the others, and leaves zeros from end to end. Assumes nothing.
 use Prim.Native.Nat.{ℕ}
 use mathlib.Core.Path.{_≡_, refl}
 use mathlib.Core.List.{List, [], _∷_}
@@ -68,7 +68,16 @@ marks-short = refl
 -- any of the five by itself
 abbrev marksIn : ℕ → ℕ → ℕ → ℕ → ℕ → Ended
 marksIn regions rules kinds colours ppms =
-    ended (record { regions = regions; rules = rules; kinds = kinds; colours = colours; ppms = ppms; barRules = 3; barPpms = 3; scratch = 3 })
+    ended (record {
+      regions = regions;
+      rules = rules;
+      kinds = kinds;
+      colours = colours;
+      ppms = ppms;
+      barRules = 3;
+      barPpms = 3;
+      scratch = 3;
+    })
 
 one-column-short : marksIn 2 3 3 3 3 ∷ marksIn 3 2 3 3 3 ∷ marksIn 3 3 2 3 3 ∷ marksIn 3 3 3 2 3 ∷ marksIn 3 3 3 3 2 ∷ []
     ≡ turnedBack marksExceed 2 3 3 3 3 3 3 3 ∷ turnedBack marksExceed 3 2 3 3 3 3 3 3 ∷ turnedBack marksExceed 3 3 2 3 3 3 3 3
