@@ -31,7 +31,7 @@ module _ (s : Sheet) (r : Rule) where
   unfolding plan
   plan-inverted h = rw h
 
-  plan-upright : upright (r .range) ≡ true → plan s r ≡ planOf s (r .range) (r .kind)
+  pub plan-upright : upright (r .range) ≡ true → plan s r ≡ planOf s (r .range) (r .kind)
   unfolding plan
   plan-upright h = rw h
 

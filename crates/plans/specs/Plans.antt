@@ -8,7 +8,6 @@ use Rattle.model.specs.declared.Test.{Test}
 use Rattle.model.specs.declared.Plan.{Plan}
 use Rattle.model.specs.References.{unread}
 use Rattle.model.specs.Comparison.{usesSecond}
-use Rattle.model.specs.Values.{sorted}
 use Rattle.model.specs.Rule.{scale2, scale3, bar, rank, mean}
 
 -- ---- by values
@@ -34,17 +33,6 @@ planOfValues (CfRule.TopBottom number bottom percent fill) xs = rank number bott
 planOfValues (CfRule.AboveAverage below fill) xs = mean below fill xs
 planOfValues (CfRule.DuplicateValues unique fill) xs = Plan.Skipped
 planOfValues (CfRule.Expression op left right fill) xs = Plan.Skipped
-
--- the values as they are left: in order for midpoint and rank
-unfoldable pub arranged : CfRule → List Float → List Float
-arranged (CfRule.CellIs op first second fill) xs = xs
-arranged (CfRule.ColorScale2 min max) xs = xs
-arranged (CfRule.ColorScale3 min mid max) xs = sorted xs
-arranged (CfRule.DataBar color) xs = xs
-arranged (CfRule.TopBottom number bottom percent fill) xs = sorted xs
-arranged (CfRule.AboveAverage below fill) xs = xs
-arranged (CfRule.DuplicateValues unique fill) xs = xs
-arranged (CfRule.Expression op left right fill) xs = xs
 
 -- ---- by operands
 

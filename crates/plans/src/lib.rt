@@ -1,11 +1,12 @@
 // What a rule comes to ahead of its regions: the arms of resolve_conditional_paints (conditional.rs), each up to its loop over the regions.
 // The definitions are model's Rule.antt. An inverted range defers before any of this.
 ghost use mathlib.Core.Path.{_≡_};
+ghost use lib.ListN.{length, replicate};
 ghost use Rattle.model.specs.declared.CfRule.{CfRule};
+ghost use Rattle.model.specs.Ratio.{zeroF};
 ghost use Rattle.model.specs.References.{unread};
-ghost use Rattle.model.specs.Values.{sorted};
 ghost use Rattle.model.specs.Rule.{scale2, scale3, bar, rank, mean};
-ghost use Rattle.plans.specs.Plans.{takesValues, planOfValues, arranged, planOfOperands};
+ghost use Rattle.plans.specs.Plans.{takesValues, planOfValues, planOfOperands};
 use model::CfRule;
 use model::ConditionalComparison;
 use model::ConditionalOperand;
@@ -117,7 +118,6 @@ fn color_scale2(min: Rgb, max: Rgb, values: &[f64]) -> Plan
 // Port of the arm CfRule::ColorScale3 up to its regions. The bounds are taken ahead of the sort, which puts -0 before an earlier +0.
 fn color_scale3(min: Rgb, mid: Rgb, max: Rgb, values: &mut [f64]) -> Plan
     ensures { λ r. ⌜ r ≡ scale3 min mid max (now (values .entry)) ⌝ }
-    ensures { λ _. ⌜ now (values .exit) ≡ sorted (now (values .entry)) ⌝ }
 {
     let bounds = values::numeric_bounds(values);
     values::sort(values);
@@ -154,7 +154,6 @@ fn data_bar(color: Rgb, values: &[f64]) -> Plan
 // Port of the arm CfRule::TopBottom up to its regions.
 fn top_bottom(number: u32, bottom: bool, percent: bool, fill: Rgb, values: &mut [f64]) -> Plan
     ensures { λ r. ⌜ r ≡ rank number bottom percent fill (now (values .entry)) ⌝ }
-    ensures { λ _. ⌜ now (values .exit) ≡ sorted (now (values .entry)) ⌝ }
 {
     let n = values.len();
     values::sort(values);
@@ -205,11 +204,9 @@ pub fn takes_values(kind: CfRule) -> bool
     }
 }
 
-// Port of the five arms that call conditional_numeric_values, whose values these are, in sheet order. A scale of three colours and a rank
-// leave them sorted. The other kinds are skipped.
-pub fn plan_of_values(kind: CfRule, values: &mut [f64]) -> Plan
+// Port of the five arms that call conditional_numeric_values, whose values these are, in sheet order. The other kinds are skipped.
+fn plan_by(kind: CfRule, values: &mut [f64]) -> Plan
     ensures { λ r. ⌜ r ≡ planOfValues kind (now (values .entry)) ⌝ }
-    ensures { λ _. ⌜ now (values .exit) ≡ arranged kind (now (values .entry)) ⌝ }
 {
     match kind {
         CfRule::CellIs { .. } => Plan::Skipped,
@@ -226,4 +223,14 @@ pub fn plan_of_values(kind: CfRule, values: &mut [f64]) -> Plan
         CfRule::DuplicateValues { .. } => Plan::Skipped,
         CfRule::Expression { .. } => Plan::Skipped,
     }
+}
+
+// The same. The values are scratch: they are sorted on the way, and left cleared.
+pub fn plan_of_values(kind: CfRule, values: &mut [f64]) -> Plan
+    ensures { λ r. ⌜ r ≡ planOfValues kind (now (values .entry)) ⌝ }
+    ensures { λ _. ⌜ now (values .exit) ≡ replicate (length (now (values .entry))) zeroF ⌝ }
+{
+    let plan = plan_by(kind, values);
+    lent::clear_f64(values);
+    plan
 }

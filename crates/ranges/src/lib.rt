@@ -11,9 +11,12 @@ use readings::key::same_key;
 use readings::number::numeric_cell_value;
 ghost use Prim.Native.Nat.{ℕ, suc, _-_};
 ghost use mathlib.Core.Path.{_≡_};
+ghost use mathlib.Core.Bool.{true};
 ghost use mathlib.Core.List.{List};
 ghost use lib.ListN.{length, set};
 ghost use lib.Seq.{sets};
+ghost use Rattle.memory.specs.Memory.{pageOr};
+ghost use Rattle.model.specs.Ratio.{zeroF};
 ghost use Rattle.model.specs.Sheet.{inRange, upright, withinGrid, area};
 ghost use Rattle.model.specs.Rule.{cellsIn, numbers, keys, times, covered};
 ghost use Rattle.cells.specs.Columns.{columns, cellsOf, coordinateAt};
@@ -127,8 +130,8 @@ fn put(values: &mut [f64], n: usize, x: f64)
     }
 }
 
-// Port of conditional_numeric_values (conditional.rs), without its charges. A number that does not fit is counted and not written.
-pub fn gather(
+// The numbers of the cells in range, stored from the front. A number that does not fit is counted and not stored.
+fn store_numbers(
     range: Range,
     rows: &[u32],
     cols: &[u16],
@@ -141,7 +144,7 @@ pub fn gather(
 ) -> usize
     ensures count { λ r. ⌜ r ≡ length (numbers (cellsIn range (cellsOf (columns (now (rows .entry)) (now (cols .entry)) (now (kinds .entry))
         (now (wraps .entry)) (now (nums .entry)) (now (ats .entry)) (now (lens .entry)))))) ⌝ }
-    ensures stored { λ r. ⌜ now (values .exit) ≡ sets (now (values .entry)) 0 (numbers (cellsIn range (cellsOf (columns (now (rows .entry))
+    ensures stored { λ _. ⌜ now (values .exit) ≡ sets (now (values .entry)) 0 (numbers (cellsIn range (cellsOf (columns (now (rows .entry))
         (now (cols .entry)) (now (kinds .entry)) (now (wraps .entry)) (now (nums .entry)) (now (ats .entry)) (now (lens .entry)))))) ⌝ }
 {
     let mut n = 0;
@@ -157,6 +160,33 @@ pub fn gather(
         i += 1;
     }
     n
+}
+
+// Port of conditional_numeric_values (conditional.rs), without its charges: how many numbers the cells in range have, and the numbers in
+// sheet order with zeros behind them. Where the count is over `values.len()` they do not fit, and zeros are left alone.
+pub fn gather(
+    range: Range,
+    rows: &[u32],
+    cols: &[u16],
+    kinds: &[u8],
+    wraps: &[u8],
+    nums: &[u64],
+    ats: &[u32],
+    lens: &[u32],
+    values: &mut [f64],
+) -> usize
+    ensures count { λ r. ⌜ r ≡ length (numbers (cellsIn range (cellsOf (columns (now (rows .entry)) (now (cols .entry)) (now (kinds .entry))
+        (now (wraps .entry)) (now (nums .entry)) (now (ats .entry)) (now (lens .entry)))))) ⌝ }
+    ensures values { λ _. ⌜ now (values .exit) ≡ pageOr zeroF true (length (now (values .entry))) (numbers (cellsIn range (cellsOf (columns
+        (now (rows .entry)) (now (cols .entry)) (now (kinds .entry)) (now (wraps .entry)) (now (nums .entry)) (now (ats .entry))
+        (now (lens .entry)))))) ⌝ }
+{
+    lent::clear_f64(values);
+    let count = store_numbers(range, rows, cols, kinds, wraps, nums, ats, lens, values);
+    if values.len() < count {
+        lent::clear_f64(values);
+    }
+    count
 }
 
 // Whether a coordinate has a cell with a key.

@@ -28,10 +28,8 @@ returns : tie.Need-returns
 returns c =
     let m = c .before .before .before in
     let s = m .before .before .before .before in
-    let bounds = sym (s .before .before .numeric-bounds .ensures) ∙ m .bounds .given .1 in (
-      rw (scale3-bounds, bounds, c .midpoint .ensures, s .sort .ensures),
-      s .sort .ensures,
-    )
+    let bounds = sym (s .before .before .numeric-bounds .ensures) ∙ m .bounds .given .1 in
+    rw (scale3-bounds, bounds, c .midpoint .ensures, s .sort .ensures)
 
 same-length-2 : tie.Need-same-length-2
 same-length-2 c = search needs
@@ -39,7 +37,7 @@ same-length-2 c = search needs
 returns-2 : tie.Need-returns-2
 returns-2 c =
     let s = c .before .before .before .before in
-    (rw (scale3-bounds, sym (s .before .before .numeric-bounds .ensures) ∙ c .enum-told .given .1), s .sort .ensures)
+    rw (scale3-bounds, sym (s .before .before .numeric-bounds .ensures) ∙ c .enum-told .given .1)
 
 pub color-scale3-spec : {M : Type 1} → statement M
 color-scale3-spec =

@@ -12,13 +12,13 @@ same-length : tie.Need-same-length
 same-length c = search needs
 
 returns : tie.Need-returns
-returns c = (sym (rank-none _ _ _ _ _ (c .if1 .taken)), c .before .before .before .sort .ensures)
+returns c = sym (rank-none _ _ _ _ _ (c .if1 .taken))
 
 same-length-2 : tie.Need-same-length-2
 same-length-2 c = search needs
 
 returns-2 : tie.Need-returns-2
-returns-2 c = (rw (c .if2 .taken, rank-zero), c .before .before .before .before .sort .ensures)
+returns-2 c = rw (c .if2 .taken, rank-zero)
 
 selected-requires : tie.Need-selected-requires
 selected-requires c κs = search needs
@@ -32,14 +32,11 @@ same-length-3 c = search needs
 returns-3 : tie.Need-returns-3
 returns-3 c =
     let t = c .before .before .before in
-    let s = t .before .before .before .before in (
-      rw (
-        rank-some _ _ _ _ _ (t .before .if1 .left) (t .if2 .left),
-        c .threshold .ensures,
-        c .before .before .selected .ensures,
-        s .sort .ensures,
-      ),
-      s .sort .ensures,
+    rw (
+      rank-some _ _ _ _ _ (t .before .if1 .left) (t .if2 .left),
+      c .threshold .ensures,
+      c .before .before .selected .ensures,
+      t .before .before .before .before .sort .ensures,
     )
 
 pub top-bottom-spec : {M : Type 1} → statement M

@@ -1,87 +1,86 @@
--- `ranges::gather` meets its contract. The loop's invariant: the numbers left, stored after the n so far, make what all of them stored
--- from the front make. A number is stored at n and leaves those after it. The measure is what is left of the rows. Assumes nothing.
-use Prim.Native.Nat.{_-_}
-use mathlib.Core.Path.{sym, _∙_}
+-- `ranges::gather` meets its contract: over cleared values the numbers are a page of their own, and where they do not fit the values are
+-- cleared again. Assumes nothing.
+use Prim.Native.Nat.{ℕ, _≤_, _<_}
 use native.Mathlib.Omega.{arith}
-use lib.ListN.{length}
+use mathlib.Core.Path.{_≡_, sym, ap, _∙_}
+use mathlib.Core.Bool.{true}
+use mathlib.Core.List.{List}
+use lib.Ieee.{Float}
+use lib.ListN.{length, replicate, length-replicate}
+use lib.Seq.{sets, length-sets}
+use denote.Ref.{now}
 use borrow.Author.Needs.{needs}
-use Rattle.cells.specs.Columns.{columns}
-use Rattle.ranges.proofs.Laws.{Gathered, gathered-begun, gathered-more, gathered-same, gathered-long, gathered-ended}
+use Rattle.memory.specs.Memory.{pageOr}
+use Rattle.memory.proofs.Laws.{all-fits, page-over}
+use Rattle.model.specs.Ratio.{zeroF}
+use Rattle.model.specs.Rule.{cellsIn, numbers}
+use Rattle.cells.specs.Columns.{columns, cellsOf}
 use Rattle.ranges.proofs.gather.Statement.{statement}
 use Rattle.ranges.proofs.gather.Tie as tie
 
-abbrev Inv-loop : tie.InvT-loop
-Inv-loop range rows cols kinds wraps nums ats lens values₀ n₀ i₀ values n i =
-    Gathered range (columns rows cols kinds wraps nums ats lens) values₀ values n i
+-- numbers xs, so many as `count`, are stored over n zeros
+module _ (n count : ℕ) (cleared stored xs : List Float) (z : cleared ≡ replicate n zeroF) (s : stored ≡ sets cleared 0 xs)
+    (k : count ≡ length xs) where
+  stored-long : length stored ≡ n
+  stored-long = ap length s ∙ length-sets cleared 0 xs ∙ ap length z ∙ length-replicate n zeroF
 
-abbrev μ-loop : tie.MeasureT-loop
-μ-loop range rows cols kinds wraps nums ats lens values₀ n₀ i₀ values n i = length rows - i
+  stored-page : count ≤ length stored → stored ≡ pageOr zeroF true n xs
+  stored-page h =
+      s ∙ ap (λ (l : List Float). sets l 0 xs) z
+      ∙ sym (all-fits zeroF (replicate n zeroF) 0 xs (omega (arith, k, stored-long, length-replicate n zeroF)))
 
-loop-holds : tie.Need-loop-holds Inv-loop μ-loop
-loop-holds c = gathered-begun
+  stored-over : (again : List Float) → length stored < count → again ≡ replicate (length stored) zeroF → again ≡ pageOr zeroF true n xs
+  stored-over again h e =
+      e ∙ ap (λ (m : ℕ). replicate m zeroF) stored-long ∙ sym (page-over zeroF n xs true (omega (arith, k, stored-long)))
 
-number-in-requires : tie.Need-number-in-requires Inv-loop μ-loop
-number-in-requires c κs = search needs
+clear-f64-requires : tie.Need-clear-f64-requires
+clear-f64-requires c κs = search needs
 
-enum-known-reading : tie.Need-enum-known-reading Inv-loop μ-loop
-enum-known-reading c = search needs
+store-numbers-requires : tie.Need-store-numbers-requires
+store-numbers-requires c κs = search needs
 
-put-requires : tie.Need-put-requires Inv-loop μ-loop
-put-requires c κs = search needs
+clear-f64-requires-2 : tie.Need-clear-f64-requires-2
+clear-f64-requires-2 c κs = search needs
 
-add-n : tie.Need-add-n Inv-loop μ-loop
-add-n c = omega arith
+same-length : tie.Need-same-length
+same-length c = search needs
 
-add-i : tie.Need-add-i Inv-loop μ-loop
-add-i c = omega arith
+returns : tie.Need-returns
+returns c =
+    let over = c .before .before .before .before in
+    let stored = over .before .before .before in
+    let cleared = stored .before .before .before .before in
+    let a = cleared .before .before .before .before .before .before .before .before .before .before .args in
+    let cells = columns (now (a .rows)) (now (a .cols)) (now (a .kinds)) (now (a .wraps)) (now (a .nums)) (now (a .ats)) (now (a .lens)) in
+    let e = stored .store-numbers .ensures in (
+      e .0,
+      stored-over (length (now (a .values))) _ _ _ (numbers (cellsIn (a .range) (cellsOf cells))) (cleared .clear-f64 .ensures) (e .1) (e .0) _
+          (over .if1 .taken) (c .before .before .clear-f642 .ensures),
+    )
 
-loop-less : tie.Need-loop-less Inv-loop μ-loop
-loop-less c = omega arith
+same-length-2 : tie.Need-same-length-2
+same-length-2 c = search needs
 
-loop-again : tie.Need-loop-again Inv-loop μ-loop
-loop-again c =
-    let back = c .before .before .before .before .before in
-    rw (c .before .before .put .ensures)
-    (gathered-more (back .before .before .before .before .loop .inv) (back .before .before .before .loop-test .taken)
-    (sym (back .before .before .number-in .ensures) ∙ back .reading .given .1))
-
-enum-told : tie.Need-enum-told Inv-loop μ-loop
-enum-told c = search needs
-
-add-i-2 : tie.Need-add-i-2 Inv-loop μ-loop
-add-i-2 c = omega arith
-
-loop-less-2 : tie.Need-loop-less-2 Inv-loop μ-loop
-loop-less-2 c = omega arith
-
-loop-again-2 : tie.Need-loop-again-2 Inv-loop μ-loop
-loop-again-2 c =
-    gathered-same (c .before .before .before .before .loop .inv) (c .before .before .before .loop-test .taken)
-    (sym (c .before .before .number-in .ensures) ∙ c .enum-told .given .1)
-
-same-length : tie.Need-same-length Inv-loop μ-loop
-same-length c = gathered-long (c .before .loop .inv)
-
-returns : tie.Need-returns Inv-loop μ-loop
-returns c = gathered-ended (c .before .loop .inv) (c .loop-test .left)
+returns-2 : tie.Need-returns-2
+returns-2 c =
+    let stored = c .before .before .before in
+    let cleared = stored .before .before .before .before in
+    let a = cleared .before .before .before .before .before .before .before .before .before .before .args in
+    let cells = columns (now (a .rows)) (now (a .cols)) (now (a .kinds)) (now (a .wraps)) (now (a .nums)) (now (a .ats)) (now (a .lens)) in
+    let e = stored .store-numbers .ensures in (
+      e .0,
+      stored-page (length (now (a .values))) _ _ _ (numbers (cellsIn (a .range) (cellsOf cells))) (cleared .clear-f64 .ensures) (e .1) (e .0)
+          (c .if1 .left),
+    )
 
 pub gather-spec : {M : Type 1} → statement M
 gather-spec =
     tie.close
     (tie.spec
-    Inv-loop
-    μ-loop
-    loop-holds
-    number-in-requires
-    enum-known-reading
-    put-requires
-    add-n
-    add-i
-    loop-less
-    loop-again
-    enum-told
-    add-i-2
-    loop-less-2
-    loop-again-2
+    clear-f64-requires
+    store-numbers-requires
+    clear-f64-requires-2
     same-length
-    returns)
+    returns
+    same-length-2
+    returns-2)
