@@ -1,11 +1,14 @@
 -- Each claim of specs/Claims.antt, held. What the contract promises of a call is the pair of its answer and its columns.
 -- Assumes nothing.
-use Prim.Native.Nat.{ℕ}
+use Prim.Native.Nat.{ℕ, zero, suc}
 use native.Mathlib.Omega.{arith}
 use mathlib.Core.Path.{_≡_, refl, sym, ap, _∙_}
-use mathlib.Core.Logic.{inr}
+use mathlib.Core.List.{[]}
+use contract.Lifetimes.{Lfts}
+use lib.ListN.{replicate}
 use Rattle.model.specs.declared.Answer.{Answer}
-use Rattle.model.specs.Answer.{Summary, Result, answer, answered, summary}
+use Rattle.model.specs.Ratio.{zeroF}
+use Rattle.model.specs.Answer.{Summary, Result, answered, summary}
 use Rattle.model.specs.Job.{Job, runOf, result}
 use Rattle.model.specs.Columns.{Columns, columnsOf}
 use Rattle.model.proofs.Computing.{jobs}
@@ -16,7 +19,7 @@ use Rattle.laws.specs.Demands.{reached, markCount, lengthsOf}
 use Rattle.laws.proofs.Answer.{summary-injective}
 use Rattle.laws.proofs.DemandOne.{demand-one}
 use Rattle.laws.proofs.DemandThree.{demand-three}
-use Rattle.claims.specs.Claims.{Where, Ends, NothingAsked, Determined, Possible, DemandOne, DemandThree, Met}
+use Rattle.claims.specs.Claims.{Where, Ends, NothingAsked, Determined, Possible, DemandOne, DemandThree, WorkedReport, Met}
 use Rattle.claims.proofs.Answers.{result-told}
 
 -- ---- what the contract promises
@@ -79,14 +82,56 @@ call-demand-three j good fits =
       bounded = d .bounded;
     }
 
--- the worked job of document 01
+-- ---- the worked job of document 01
+
+-- lent columns that hold something else
+abbrev used : Columns
+used =
+    record {
+      regions = replicate 4 7;
+      rules = replicate 4 7;
+      kinds = replicate 4 7;
+      colours = replicate 4 7;
+      ppms = replicate 4 7;
+      barRules = replicate 3 7;
+      barPpms = replicate 3 7;
+      scratch = replicate 3 zeroF;
+    }
+
+worked-report : (a : Answer) (after : Columns) → summary a ≡ result Worked.job 11 (lengthsOf used) .summary
+    → after ≡ columnsOf Worked.job 11 (lengthsOf used) → WorkedReport a after
+unfolding jobs samples
+worked-report a after s c =
+    record {
+      isAnswered = ap (λ (x : Summary). x .number) s;
+      count = ap (λ (x : Summary). x .count) s;
+      marks = ap (λ (x : Summary). x .marks) s;
+      regions = ap (λ (x : Columns). x .regions) c;
+      rules = ap (λ (x : Columns). x .rules) c;
+      kinds = ap (λ (x : Columns). x .kinds) c;
+      colours = ap (λ (x : Columns). x .colours) c;
+      ppms = ap (λ (x : Columns). x .ppms) c;
+    }
+
+noLifetimes : (n : ℕ) → Lfts n
+noLifetimes zero = tt
+noLifetimes (suc n) = ([], noLifetimes n)
+
 pub met : Met
 unfolding jobs samples
 met =
     record {
+      somewhere = record { lifetimes = noLifetimes 18; place = λ i. (i, 0); name = λ i. i };
       job = Worked.job;
+      limit = 11;
+      before = used;
+      cells = refl;
+      regions = refl;
+      rules = refl;
       wellFormed = refl;
       reachable = omega arith;
-      marked = refl;
-      enough = (omega arith, inr (omega arith));
+      roomy = refl;
+      ending = λ w. possible w Worked.job 11 used;
+      reports = λ w after a e.
+          worked-report a after (the-answer w Worked.job 11 used after a e) (the-columns w Worked.job 11 used after a e);
     }

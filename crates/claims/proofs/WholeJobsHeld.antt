@@ -21,9 +21,10 @@ use Rattle.jobtext.proofs.Reading.{read-accepted, text-read, job-text-one, read
 use Rattle.put.specs.Laid.{page, pageLength}
 use Rattle.reporttext.proofs.Jobs.{well-formed-few}
 use Rattle.whole.proofs.Longest.{whole-longest}
-use Rattle.claims.specs.WholeJobs.{NothingAskedOfTexts, reportOn, Printed, AlwaysWhole, ReadExactly, OneText, TooLong, LimitRaised}
+use Rattle.claims.specs.WholeJobs.{NothingAskedOfTexts, reportOn, Printed, AlwaysWhole, RatioGiven, ChannelGiven}
+use Rattle.claims.specs.WholeJobs.{ReadExactly, OneText, TooLong, LimitRaised}
 
--- ---- the call
+-- ---- the calls
 
 pub nothing-asked-of-texts : NothingAskedOfTexts
 nothing-asked-of-texts κs a = tt
@@ -42,6 +43,12 @@ always-whole l text before after r enough e =
     let f = fits (length before) ts (omega (arith, whole-longest text)) in
     let length-is : r ≡ length ts = e .0 ∙ f .0 in
     (length-is, ap (λ (k : ℕ). take k after) length-is ∙ ap (take (length ts)) (e .1) ∙ f .1)
+
+pub ratio-given : RatioGiven
+ratio-given value minimum maximum r = (tt, λ e. e)
+
+pub channel-given : ChannelGiven
+channel-given start end ppm r = (tt, λ e. e)
 
 -- ---- the text
 

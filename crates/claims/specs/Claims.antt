@@ -1,9 +1,12 @@
 -- Demands 1 and 3 of the call over lent columns itself, as statements only: each is said of what the contract of
--- `call::resolve_conditional_paints` asks (`Pre`) and promises (`Post`). proofs/Held.antt proves them. Assumes nothing.
+-- `call::resolve_conditional_paints` asks (`Pre`) and promises (`Post`). proofs/Held.antt proves them.
+-- `Pre` and `Post` of a function F of a crate C are made from its `requires` and `ensures`, in the module `Rattle.C.proofs.F.Reads`;
+-- `rt goals C` writes it to target/goals/C/Rattle.C.proofs/proofs/F/Reads.antt. That F, called where `Pre` holds, ends where `Post`
+-- holds is the verdict of `rt check C`; here stands what follows from `Post` for every caller. Assumes nothing.
 use Prim.Native.Nat.{ℕ, _+_, _-_, _*_, _^_, _≤_, _<_}
 use mathlib.Core.Path.{_≡_}
 use mathlib.Core.Logic.{_↔_}
-use mathlib.Core.List.{List}
+use mathlib.Core.List.{List, [], _∷_}
 use base.Fml.{GName}
 use contract.Lifetimes.{Lfts}
 use denote.Ref.{RefT}
@@ -110,10 +113,31 @@ pub record Three (j : Job) : Type 0 where
 abbrev pub DemandThree : Type 0
 DemandThree = (j : Job) → WellFormed j → reached j < 2 ^ 64 → Three j
 
--- some job is answered, with marks: the demands are not empty
+-- ---- the demands are not empty
+
+-- the report of document 01 on its worked job, in mark columns of four
+pub record WorkedReport (a : Answer) (after : Columns) : Type 0 where
+  pub isAnswered : IsAnswered a
+  pub count : summary a .count ≡ 11
+  pub marks : summary a .marks ≡ 3
+  pub regions : after .regions ≡ 2 ∷ 0 ∷ 1 ∷ 0 ∷ []
+  pub rules : after .rules ≡ 1 ∷ 0 ∷ 0 ∷ 0 ∷ []
+  pub kinds : after .kinds ≡ 1 ∷ 3 ∷ 3 ∷ 0 ∷ []
+  pub colours : after .colours ≡ 0xff0000 ∷ 0x00ff00 ∷ 0x00ff00 ∷ 0 ∷ []
+  pub ppms : after .ppms ≡ 0 ∷ 0 ∷ 500_000 ∷ 0 ∷ []
+
+-- a job of three cells, three regions and two rules, a limit and lent columns that meet every hypothesis of demand 3; slices can lie
+-- somewhere, there is an ending that the contract of the call allows, and each that it allows is that report
 pub record Met : Type 0 where
+  pub somewhere : Where
   pub job : Job
+  pub limit : ℕ
+  pub before : Columns
+  pub cells : cellCount job ≡ 3
+  pub regions : regionCount job ≡ 3
+  pub rules : length (rulesOf job) ≡ 2
   pub wellFormed : WellFormed job
   pub reachable : reached job < 2 ^ 64
-  pub marked : markCount job ≡ 3
-  pub enough : Enough job 11 (record { regions = 5; rules = 4; kinds = 3; colours = 7; ppms = 6; barRules = 3; barPpms = 5; scratch = 4 })
+  pub roomy : Roomy job (lengthsOf before)
+  pub ending : (w : Where) → Ending w job limit before
+  pub reports : (w : Where) (after : Columns) (a : Answer) → Ends w job limit before a after → WorkedReport a after

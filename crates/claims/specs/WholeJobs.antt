@@ -1,5 +1,6 @@
--- What is claimed of a whole job, from the text to the report, as statements only: of what the contract of `whole::whole_job` asks (`Pre`)
--- and promises (`Post`), and of the definition that it goes by. proofs/WholeJobsHeld.antt proves them. Assumes nothing.
+-- What is claimed of the calls for C, as statements only: of what the contracts of `wavendiru_whole_job`, `wavendiru_ratio` and
+-- `wavendiru_channel` ask (`Pre`) and promise (`Post`; Claims.antt says where these are from), and of the definition that a whole job
+-- goes by. proofs/WholeJobsHeld.antt proves them. Assumes nothing.
 use Prim.Native.Nat.{ℕ, _^_, _≤_, _<_}
 use mathlib.Core.Path.{_≡_}
 use mathlib.Core.Logic.{_↔_}
@@ -8,6 +9,8 @@ use base.Fml.{GName}
 use contract.Lifetimes.{Lfts}
 use denote.Ref.{RefT}
 use lib.ListN.{length, take}
+use lib.Ieee.{Float}
+use Rattle.model.specs.Ratio.{ratio, channel}
 use Rattle.model.specs.Answer.{answered}
 use Rattle.model.specs.Job.{runOf}
 use Rattle.laws.specs.Demands.{WellFormed, reached, markCount}
@@ -19,9 +22,11 @@ use Rattle.jobtext.proofs.Reading.{Readable}
 use Rattle.put.specs.Laid.{page, pageLength}
 use Rattle.reporttext.specs.Report.{reportOf}
 use Rattle.reporttext.specs.Longest.{longest}
-use Rattle.whole.proofs.whole_job.Reads as whole
+use Rattle.exports.proofs.wavendiru_whole_job.Reads as wholeJob
+use Rattle.exports.proofs.wavendiru_ratio.Reads as ratioCall
+use Rattle.exports.proofs.wavendiru_channel.Reads as channelCall
 
--- ---- the call
+-- ---- the whole job
 
 -- where the text and the report lie
 pub record Lent : Type 0 where
@@ -40,11 +45,11 @@ args l text report = (bytes l 0 text, (bytes l 1 report, tt))
 
 -- the call on a text ends with this length, and leaves this in the bytes that held `before`
 abbrev pub Prints : Lent → List ℕ → List ℕ → ℕ → List ℕ → Type 0
-Prints l text before r after = whole.Post (l .lifetimes) (args l text before) r (args l text after)
+Prints l text before r after = wholeJob.Post (l .lifetimes) (args l text before) r (args l text after)
 
 -- nothing is asked of the caller
 abbrev pub NothingAskedOfTexts : Type 0
-NothingAskedOfTexts = (κs : Lfts 2) (a : TextAndReport) → whole.Pre κs a
+NothingAskedOfTexts = (κs : Lfts 2) (a : TextAndReport) → wholeJob.Pre κs a
 
 -- print (decide (read text))
 abbrev pub reportOn : List ℕ → List ℕ
@@ -59,6 +64,21 @@ Printed = (l : Lent) (text before after : List ℕ) (r : ℕ) → Prints l text 
 abbrev pub AlwaysWhole : Type 0
 AlwaysWhole = (l : Lent) (text before after : List ℕ) (r : ℕ) → longest ≤ length before → Prints l text before r after
     → (r ≡ length (reportOn text)) × (take r after ≡ reportOn text)
+
+-- ---- ratio and channel
+
+-- three arguments in their order
+abbrev three : {A B C : Type 0} → A → B → C → A × (B × (C × Unit {0}))
+three a b c = (a, (b, (c, tt)))
+
+-- nothing is asked of the caller, and what comes back is the definition's
+abbrev pub RatioGiven : Type 0
+RatioGiven = (value minimum maximum : Float) (r : ℕ) → ratioCall.Pre tt (three value minimum maximum)
+    × (ratioCall.Post tt (three value minimum maximum) r (three value minimum maximum) → r ≡ ratio value minimum maximum)
+
+abbrev pub ChannelGiven : Type 0
+ChannelGiven = (start end ppm r : ℕ) → channelCall.Pre tt (three start end ppm)
+    × (channelCall.Post tt (three start end ppm) r (three start end ppm) → r ≡ channel start end ppm)
 
 -- ---- the text
 
@@ -81,5 +101,5 @@ withLimit limit j =
 
 -- no mark moves when the limit is raised: from E on every limit gives one result
 abbrev pub LimitRaised : Type 0
-LimitRaised = (j : JobText) (limit : ℕ) → WellFormed (laid j) → reached (laid j) < 2 ^ 64 → markCount (laid j) ≤ 1024 → reached (laid j) ≤ limit
-    → decided (ReadResult.is (withLimit limit j)) ≡ answered (reached (laid j)) (runOf (laid j))
+LimitRaised = (j : JobText) (limit : ℕ) → WellFormed (laid j) → reached (laid j) < 2 ^ 64 → markCount (laid j) ≤ 1024
+    → reached (laid j) ≤ limit → decided (ReadResult.is (withLimit limit j)) ≡ answered (reached (laid j)) (runOf (laid j))

@@ -1,2 +1,2 @@
-// What is claimed of the call over lent columns and of a whole job: statements in specs/Claims.antt and specs/WholeJobs.antt, each proved in
-// proofs/Held.antt and proofs/WholeJobsHeld.antt.
+// What is claimed of the call over lent columns, in specs/Claims.antt, and of the calls for C, in specs/WholeJobs.antt.
+// proofs/Held.antt and proofs/WholeJobsHeld.antt prove each statement.
