@@ -3,11 +3,13 @@
 use Prim.Native.Nat.{ℕ, _≤_}
 use native.Mathlib.Omega.{arith}
 use mathlib.Core.Path.{_≡_, refl, sym, ap, _∙_}
-use mathlib.Core.Bool.{Bool, cond}
+use mathlib.Core.Bool.{Bool, true, false, cond, _&&_, false≢true}
 use mathlib.Core.List.{List, _++_, map}
+use lib.Dec.{leb}
 use lib.ListN.{length, replicate}
 use types.Run.{OneOf, miss}
 use denote.Enum.Declared.{tagOf}
+use borrow.Author.Tests.{leb-true, le-leb}
 use Rattle.charging.proofs.Charged.{the-type}
 use Rattle.charging.specs.declared.Counter.{Counter}
 use Rattle.charging.specs.declared.Charged.{Charged}
@@ -20,17 +22,16 @@ use Rattle.model.specs.Sheet.{Sheet, CellColumns, regionsFrom}
 use Rattle.model.specs.Rule.{ahead, plan, isSimplified}
 use Rattle.model.specs.Run.{RegionState, IndexedRule, marksFrom, allAfterwards, step}
 use Rattle.cells.specs.Columns.{cellsOf}
+use Rattle.cells.proofs.Laws.{cells-length}
 use Rattle.ranges.specs.Turns.{sheetFrom}
 use Rattle.plans.specs.Plans.{testsBar}
 use Rattle.plans.proofs.Laws.{simplified-tests-bar}
 use Rattle.judge.specs.declared.Said.{Said}
 use Rattle.judge.specs.declared.Judged.{Judged}
 use Rattle.judge.proofs.Laws.{StoppedBy}
-use Rattle.laws.proofs.Lengths.{cells-length}
 use Rattle.steps.specs.declared.Step.{Step}
-use Rattle.steps.specs.Step.{aheadOfRegions, planIn, judgedIn, refusedStep, stepFrom, stepBy, stepOf}
-use Rattle.steps.proofs.Charges.{spend-in-two, refusals}
-use Rattle.steps.proofs.Planning.{plan-in-enough}
+use Rattle.steps.specs.Step.{aheadOfRegions, judgedIn, emptyStep, refusedStep, saidStep, stepFrom, stepBy, fitsIn, stepOf}
+use Rattle.steps.proofs.Charges.{spend-in-two, refusals, refused-after}
 use Rattle.steps.proofs.Judging.{Judges, judges}
 
 -- ---- statements
@@ -51,48 +52,118 @@ pub record Stepped (s : Sheet) (i : IndexedRule) (given : List RegionState) (lim
   pub charged : r .charged ≡ andThen before (λ c. spend limit c (step s i given .charges))
   pub says : (c : Counter) → r .charged ≡ Charged.Within c → Says s i given r
 
--- ---- by what the charges ahead of the regions came to
+-- ---- by what the charges came to
 
-module _ (limit : ℕ) (bar : Bool) (j : Judged) where
-  from-charged : (ch : Charged) → stepFrom limit bar j ch .charged ≡ andThen ch (λ c. spend limit c (replicate (j .asked) one))
-  unfolding stepFrom andThen
-  from-charged (Charged.Within c) = refl
-  from-charged (Charged.LimitExceeded c actual) = refl
-  from-charged (Charged.CoordinateOverflow c) = refl
+cond-few : (b : Bool) → cond b 1 0 ≤ 1
+cond-few true = omega arith
+cond-few false = omega arith
 
-  pub from-refused : (ch : Charged) → OneOf refusals (tagOf the-type ch) → refusedStep ch ≡ stepFrom limit bar j ch
-  unfolding stepFrom
-  from-refused (Charged.Within c) h = absurd (miss refusals 0 tt h)
-  from-refused (Charged.LimitExceeded c actual) h = refl
-  from-refused (Charged.CoordinateOverflow c) h = refl
+module _ (bar : Bool) (j : Judged) where
+  said-charged : (x : Charged) → saidStep bar j x .charged ≡ x
+  unfolding saidStep
+  said-charged (Charged.Within c) = refl
+  said-charged (Charged.LimitExceeded c actual) = refl
+  said-charged (Charged.CoordinateOverflow c) = refl
+
+  pub said-accepted : (x : Charged) (c : Counter) → x ≡ Charged.Within c
+      → record { fits = true; charged = x; outcomes = j .outcomes; deferred = cond (j .unresolved) 1 0; simplified = cond bar 1 0 }
+      ≡ saidStep bar j x
+  unfolding saidStep
+  said-accepted x c e = rw e
+
+  pub said-refused : (x : Charged) → OneOf refusals (tagOf the-type x) → refusedStep x ≡ saidStep bar j x
+  unfolding saidStep
+  said-refused (Charged.Within c) h = absurd (miss refusals 0 tt h)
+  said-refused (Charged.LimitExceeded c actual) h = refl
+  said-refused (Charged.CoordinateOverflow c) h = refl
+
+  -- refused ahead of the regions
+  pub from-refused : (limit : ℕ) (x : Charged) → OneOf refusals (tagOf the-type x) → refusedStep x ≡ stepFrom limit bar j x
+  from-refused limit x h = said-refused x h ∙ ap (saidStep bar j) (refused-after x h _)
 
   record Told (r : Step) : Type 0 where
     outcomes : r .outcomes ≡ j .outcomes
     deferred : r .deferred ≡ cond (j .unresolved) 1 0
     simplified : r .simplified ≡ cond bar 1 0
 
-  -- all charges are accepted only if those ahead of the regions are
-  from-within : (ch : Charged) (c : Counter) → stepFrom limit bar j ch .charged ≡ Charged.Within c → Told (stepFrom limit bar j ch)
-  unfolding stepFrom
-  from-within (Charged.Within n) c h = record { outcomes = refl; deferred = refl; simplified = refl }
-  from-within (Charged.LimitExceeded n actual) c h = absurd (let no : _≡_ {A = ℕ} 0 1 = cc in omega arith)
-  from-within (Charged.CoordinateOverflow n) c h = absurd (let no : _≡_ {A = ℕ} 0 1 = cc in omega arith)
+  -- outcomes are told where all charges are accepted
+  said-within : (x : Charged) (c : Counter) → saidStep bar j x .charged ≡ Charged.Within c → Told (saidStep bar j x)
+  unfolding saidStep
+  said-within (Charged.Within n) c h = record { outcomes = refl; deferred = refl; simplified = refl }
+  said-within (Charged.LimitExceeded n actual) c h = absurd (let no : _≡_ {A = ℕ} 0 1 = cc in omega arith)
+  said-within (Charged.CoordinateOverflow n) c h = absurd (let no : _≡_ {A = ℕ} 0 1 = cc in omega arith)
+
+  said-once : (x : Charged) → (saidStep bar j x .deferred ≤ 1) × (saidStep bar j x .simplified ≤ 1)
+  unfolding saidStep
+  said-once (Charged.Within c) = (cond-few (j .unresolved), cond-few bar)
+  said-once (Charged.LimitExceeded c actual) = (omega arith, omega arith)
+  said-once (Charged.CoordinateOverflow c) = (omega arith, omega arith)
 
 -- the plan counts only where the charges ahead of the regions are accepted
 by-alike : (s : Sheet) (r : Rule) (limit : ℕ) (rows cols flags : List ℕ) (p q : Plan) (ch : Charged)
     → ((c : Counter) → ch ≡ Charged.Within c → p ≡ q) → stepBy s r limit rows cols flags p ch ≡ stepBy s r limit rows cols flags q ch
-unfolding stepFrom
+unfolding saidStep andThen
 by-alike s r limit rows cols flags p q (Charged.Within c) h = rw (h c refl)
 by-alike s r limit rows cols flags p q (Charged.LimitExceeded c actual) h = refl
 by-alike s r limit rows cols flags p q (Charged.CoordinateOverflow c) h = refl
 
-pub step-by-parts : (s : Sheet) (r : Rule) (charged : Charged) (limit : ℕ) (rows cols flags : List ℕ) (room : ℕ) (ch : Charged) (p : Plan)
-    → ch ≡ aheadOfRegions s r limit charged → ((c : Counter) → ch ≡ Charged.Within c → p ≡ planIn room s r)
-    → stepBy s r limit rows cols flags p ch ≡ stepOf s r charged limit rows cols flags room
-unfolding stepOf
-step-by-parts s r charged limit rows cols flags room ch p is planned =
-    by-alike s r limit rows cols flags p (planIn room s r) ch planned
-    ∙ ap (λ (x : Charged). stepBy s r limit rows cols flags (planIn room s r) x) is
+-- ---- by whether it fits
+
+pub fits-cells : (cells regions room : ℕ) → fitsIn cells regions room ≡ true → cells ≤ room
+fits-cells cells regions room h = leb-true cells room (go (leb cells room) (leb regions 1024) h)
+  where
+    go : (a b : Bool) → (a && b) ≡ true → a ≡ true
+    go true b e = refl
+    go false b e = absurd (false≢true e)
+
+-- there are as many cells as rows
+pub fits-so : (c : CellColumns) (regions room : ℕ) (x b : Bool) → x ≡ fitsIn (length (c .rows)) regions room → x ≡ b
+    → fitsIn (length (cellsOf c)) regions room ≡ b
+fits-so c regions room x b e h = ap (λ (n : ℕ). fitsIn n regions room) (cells-length c 0 (length (c .rows))) ∙ sym e ∙ h
+
+module _ (s : Sheet) (r : Rule) (charged : Charged) (limit : ℕ) (rows cols flags : List ℕ) (room : ℕ) where
+  abbrev fits : Bool
+  fits = fitsIn (length (s .cells)) (length rows) room
+
+  pub step-by-parts : (ch : Charged) (p : Plan) → fits ≡ true → ch ≡ aheadOfRegions s r limit charged
+      → ((c : Counter) → ch ≡ Charged.Within c → p ≡ plan s r)
+      → stepBy s r limit rows cols flags p ch ≡ stepOf s r charged limit rows cols flags room
+  unfolding stepOf
+  step-by-parts ch p f is planned =
+      rw f
+      (by-alike s r limit rows cols flags p (plan s r) ch planned
+      ∙ ap (λ (x : Charged). stepBy s r limit rows cols flags (plan s r) x) is)
+
+  pub step-unfit : fits ≡ false → emptyStep false charged ≡ stepOf s r charged limit rows cols flags room
+  unfolding stepOf
+  step-unfit f = rw f
+
+  -- a rule counts once
+  pub step-once : (stepOf s r charged limit rows cols flags room .deferred ≤ 1)
+      × (stepOf s r charged limit rows cols flags room .simplified ≤ 1)
+  unfolding stepOf
+  step-once = go fits
+    where
+      go : (b : Bool) → let x = cond b (stepBy s r limit rows cols flags (plan s r) (aheadOfRegions s r limit charged))
+          (emptyStep false charged) in (x .deferred ≤ 1) × (x .simplified ≤ 1)
+      go true = said-once _ _ _
+      go false = (omega arith, omega arith)
+
+refused-or-unfit : (b : Bool) (x : Charged) → cond b (refusedStep x) (emptyStep false x) ≡ emptyStep b x
+refused-or-unfit true x = refl
+refused-or-unfit false x = refl
+
+-- nothing more is said or charged once a charge was refused
+module _ (s : Sheet) (r : Rule) (limit : ℕ) (rows cols flags : List ℕ) (room : ℕ) where
+  pub step-exceeded : (c : Counter) (actual : ℕ) → let x = Charged.LimitExceeded c actual in
+      stepOf s r x limit rows cols flags room ≡ emptyStep (fitsIn (length (s .cells)) (length rows) room) x
+  unfolding stepOf saidStep andThen
+  step-exceeded c actual = refused-or-unfit (fitsIn (length (s .cells)) (length rows) room) (Charged.LimitExceeded c actual)
+
+  pub step-overflowed : (c : Counter) → let x = Charged.CoordinateOverflow c in
+      stepOf s r x limit rows cols flags room ≡ emptyStep (fitsIn (length (s .cells)) (length rows) room) x
+  unfolding stepOf saidStep andThen
+  step-overflowed c = refused-or-unfit (fitsIn (length (s .cells)) (length rows) room) (Charged.CoordinateOverflow c)
 
 -- ---- the step
 
@@ -109,7 +180,7 @@ module _ (s : Sheet) (i : IndexedRule) (rows cols flags : List ℕ) (few : lengt
   abbrev stepHere : Step
   stepHere = stepBy s (i .rule) limit rows cols flags (plan s (i .rule)) (aheadOfRegions s (i .rule) limit before)
 
-  says-step : Told limit (testsBar (plan s (i .rule))) judged stepHere → Says s i given stepHere
+  says-step : Told (testsBar (plan s (i .rule))) judged stepHere → Says s i given stepHere
   says-step t =
       let j = judges-step in
       record {
@@ -126,11 +197,11 @@ module _ (s : Sheet) (i : IndexedRule) (rows cols flags : List ℕ) (few : lengt
   stepped : Stepped s i given limit before stepHere
   stepped =
       let bar = testsBar (plan s (i .rule)) in
-      let ch = aheadOfRegions s (i .rule) limit before in
+      let x = andThen (aheadOfRegions s (i .rule) limit before) (λ c. spend limit c (replicate (judged .asked) one)) in
       record {
         charged = rw (judges-step .charged)
-            (from-charged limit bar judged ch ∙ sym (spend-in-two limit before (ahead s (i .rule)) (replicate (judged .asked) one)));
-        says = λ c h. says-step (from-within limit bar judged ch c h);
+            (said-charged bar judged x ∙ sym (spend-in-two limit before (ahead s (i .rule)) (replicate (judged .asked) one)));
+        says = λ c h. says-step (said-within bar judged x c h);
       }
 
 -- a step over lent columns, with room for as many values as there are cells, and up to 1,024 regions, whose flags say which are stopped
@@ -142,5 +213,8 @@ pub step-stepped : (c : CellColumns) (rows cols flags pool : List ℕ) (name : S
 unfolding stepOf
 step-stepped c rows cols flags pool name room i given limit before r few enough stopped is =
     let s = sheetFrom (cellsOf c) (regionsFrom rows cols 0 (length rows)) pool name in
-    rw (is, plan-in-enough room s (i .rule) (omega (arith, cells-length c 0 (length (c .rows)))))
-    (stepped s i rows cols flags few refl given stopped limit before)
+    rw (
+      is,
+      le-leb (length (s .cells)) room (omega (arith, cells-length c 0 (length (c .rows)))),
+      le-leb (length rows) 1024 few,
+    ) (stepped s i rows cols flags few refl given stopped limit before)

@@ -2,3 +2,4 @@ pub mod Charges
 pub mod Planning
 pub mod Judging
 pub mod Laws
+pub mod Examples

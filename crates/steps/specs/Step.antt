@@ -1,18 +1,20 @@
--- One rule up to the writing of its marks: what the charges come to, what is said of the regions, and whether the rule counts as deferred
--- and as simplified. Once a charge ahead of the regions is refused nothing is said. Assumes nothing.
+-- One rule up to the writing of its marks: whether it fits, what the charges come to, what is said of the regions, and whether the rule
+-- counts as deferred and as simplified. Where it does not fit nothing is charged and nothing said, and once a charge is refused nothing is
+-- said. Assumes nothing.
 use Prim.Native.Nat.{ℕ, min}
 use mathlib.Core.Bool.{Bool, true, false, cond, _&&_}
 use mathlib.Core.List.{List}
-use lib.ListN.{length, take, replicate}
+use lib.Dec.{leb}
+use lib.ListN.{length, replicate}
 use Rattle.charging.specs.declared.Charged.{Charged}
 use Rattle.charging.specs.Charge.{one, andThen, spend}
 use Rattle.model.specs.declared.CfRule.{CfRule}
 use Rattle.model.specs.declared.Outcome.{Outcome}
 use Rattle.model.specs.declared.Plan.{Plan}
 use Rattle.model.specs.declared.Rule.{Rule}
-use Rattle.model.specs.Sheet.{Sheet, upright}
-use Rattle.model.specs.Rule.{values, ahead, plan}
-use Rattle.plans.specs.Plans.{takesValues, planOfValues, testsBar}
+use Rattle.model.specs.Sheet.{Sheet}
+use Rattle.model.specs.Rule.{ahead, plan}
+use Rattle.plans.specs.Plans.{testsBar}
 use Rattle.judge.specs.declared.Said.{Said}
 use Rattle.judge.specs.declared.Judged.{Judged}
 use Rattle.judge.specs.Judge.{said, judgedAs, judgedOf, outcomesFrom}
@@ -34,11 +36,6 @@ isDuplicates (CfRule.Expression op left right fill) = false
 abbrev pub aheadOfRegions : Sheet → Rule → ℕ → Charged → Charged
 aheadOfRegions s r limit charged = andThen charged (λ c. spend limit c (ahead s r))
 
--- what a rule comes to where there is room for so many values; those that do not fit do not count
-unfoldable pub planIn : ℕ → Sheet → Rule → Plan
-planIn room s r =
-    cond (upright (r .range) && takesValues (r .kind)) (planOfValues (r .kind) (take room (values s (r .range)))) (plan s r)
-
 -- ---- the regions
 
 abbrev pub nothingSaid : List Said
@@ -52,30 +49,41 @@ judgedIn s r rows cols flags (Plan.Tested test) = judgedOf (outcomesFrom s r tes
 
 -- ---- the rule
 
-abbrev pub refusedStep : Charged → Step
-refusedStep charged = record { charged = charged; outcomes = nothingSaid; deferred = 0; simplified = 0 }
+-- the charges alone
+abbrev pub emptyStep : Bool → Charged → Step
+emptyStep fits charged = record { fits = fits; charged = charged; outcomes = nothingSaid; deferred = 0; simplified = 0 }
 
--- the regions are charged at the count that the charges ahead of them left
-abbrev pub saidStep : ℕ → ℕ → Bool → Judged → Step
-saidStep limit count bar judged =
+-- a charge is refused
+abbrev pub refusedStep : Charged → Step
+refusedStep charged = emptyStep true charged
+
+-- by what all charges came to
+unfoldable pub saidStep : Bool → Judged → Charged → Step
+saidStep bar judged (Charged.Within c) =
     record {
-      charged = spend limit count (replicate (judged .asked) one);
+      fits = true;
+      charged = Charged.Within c;
       outcomes = judged .outcomes;
       deferred = cond (judged .unresolved) 1 0;
       simplified = cond bar 1 0;
     }
+saidStep bar judged (Charged.LimitExceeded c actual) = refusedStep (Charged.LimitExceeded c actual)
+saidStep bar judged (Charged.CoordinateOverflow c) = refusedStep (Charged.CoordinateOverflow c)
 
--- by what the charges ahead of the regions came to
-unfoldable pub stepFrom : ℕ → Bool → Judged → Charged → Step
-stepFrom limit bar judged (Charged.Within c) = saidStep limit (c .count) bar judged
-stepFrom limit bar judged (Charged.LimitExceeded c actual) = refusedStep (Charged.LimitExceeded c actual)
-stepFrom limit bar judged (Charged.CoordinateOverflow c) = refusedStep (Charged.CoordinateOverflow c)
+-- the regions are charged at the count that the charges ahead of them left
+abbrev pub stepFrom : ℕ → Bool → Judged → Charged → Step
+stepFrom limit bar judged charged = saidStep bar judged (andThen charged (λ c. spend limit c (replicate (judged .asked) one)))
 
 -- by the plan too
 abbrev pub stepBy : Sheet → Rule → ℕ → List ℕ → List ℕ → List ℕ → Plan → Charged → Step
 stepBy s r limit rows cols flags p charged = stepFrom limit (testsBar p) (judgedIn s r rows cols flags p) charged
 
+-- room for a value of each cell, and for an outcome of each region
+abbrev pub fitsIn : ℕ → ℕ → ℕ → Bool
+fitsIn cells regions room = leb cells room && leb regions 1024
+
 -- `charged` is what the charges so far came to, `rows` and `cols` are the regions', `flags` says which of them are stopped
 unfoldable pub stepOf : Sheet → Rule → Charged → ℕ → List ℕ → List ℕ → List ℕ → ℕ → Step
 stepOf s r charged limit rows cols flags room =
-    stepBy s r limit rows cols flags (planIn room s r) (aheadOfRegions s r limit charged)
+    let step = stepBy s r limit rows cols flags (plan s r) (aheadOfRegions s r limit charged) in
+    cond (fitsIn (length (s .cells)) (length rows) room) step (emptyStep false charged)

@@ -17,17 +17,20 @@ ghost use mathlib.Core.Path.{_≡_};
 ghost use mathlib.Core.Bool.{cond};
 ghost use mathlib.Core.List.{List};
 ghost use lib.ListN.{length, replicate};
+ghost use Rattle.charging.specs.declared.Charged.{Charged};
 ghost use Rattle.model.specs.declared.CellCoordinate.{CellCoordinate};
 ghost use Rattle.model.specs.Ratio.{zeroF};
 ghost use Rattle.cells.specs.Columns.{columns, cellsOf};
 ghost use Rattle.ranges.specs.Turns.{sheetFrom};
 ghost use Rattle.plans.specs.Plans.{isBarTest, testsBar};
 ghost use Rattle.judge.specs.Judge.{judgedAs};
-ghost use Rattle.steps.specs.Step.{nothingSaid, judgedIn, refusedStep, saidStep, stepBy, stepOf};
+ghost use Rattle.steps.specs.Step.{nothingSaid, judgedIn, emptyStep, stepFrom, stepBy, fitsIn, stepOf};
 
-// What the charges come to; the outcomes of the regions, `Stopped` past the last; and 1 or 0 for a rule that counts as deferred and as
-// simplified. Where a charge is refused ahead of the regions: no outcome, 0 and 0.
+// Whether the scratch has room for a value of each cell, and there are at most 1,024 regions; what the charges come to; the outcomes of
+// the regions, `Stopped` past the last; and 1 or 0 for a rule that counts as deferred and as simplified. Where it does not fit: the
+// charges as they came, no outcome, 0 and 0. Where a charge is refused: no outcome, 0 and 0.
 pub struct Step {
+    pub fits: bool,
     pub charged: Charged,
     pub outcomes: [Said; 1024],
     pub deferred: u64,
@@ -130,11 +133,13 @@ fn one_if(b: bool) -> u64
     0
 }
 
-fn refused_step(charged: Charged) -> Step
-    ensures { λ r. ⌜ r ≡ refusedStep charged ⌝ }
+// The charges alone.
+fn empty_step(fits: bool, charged: Charged) -> Step
+    ensures { λ r. ⌜ r ≡ emptyStep fits charged ⌝ }
 {
     let outcomes = nothing_said();
     Step {
+        fits,
         charged,
         outcomes,
         deferred: 0,
@@ -142,19 +147,25 @@ fn refused_step(charged: Charged) -> Step
     }
 }
 
-// The regions that were asked are charged at once.
+// The regions that were asked are charged at once. Their outcomes are handed on where that is accepted.
 fn said_step(counter: Counter, limit: u64, bar: bool, judged: Judged) -> Step
-    ensures { λ r. ⌜ r ≡ saidStep limit (counter .count) bar judged ⌝ }
+    ensures { λ r. ⌜ r ≡ stepFrom limit bar judged (Charged.Within counter) ⌝ }
 {
     let charged = counter.charge_times(judged.asked, limit);
-    let outcomes = judged.outcomes;
-    let deferred = one_if(judged.unresolved);
-    let simplified = one_if(bar);
-    Step {
-        charged,
-        outcomes,
-        deferred,
-        simplified,
+    match charged {
+        Charged::Within(_) => {
+            let outcomes = judged.outcomes;
+            let deferred = one_if(judged.unresolved);
+            let simplified = one_if(bar);
+            Step {
+                fits: true,
+                charged,
+                outcomes,
+                deferred,
+                simplified,
+            }
+        }
+        _ => empty_step(true, charged),
     }
 }
 
@@ -202,12 +213,20 @@ fn step_by(
             );
             said_step(counter, limit, tests_bar(plan), judged)
         }
-        _ => refused_step(charged),
+        _ => empty_step(true, charged),
     }
 }
 
+// Whether there is room for a value of each cell, and for an outcome of each region.
+fn fits_in(cells: usize, regions: usize, room: usize) -> bool
+    ensures { λ r. ⌜ r ≡ fitsIn cells regions room ⌝ }
+{
+    cells <= room && regions <= 1024
+}
+
 // Port of one turn of the loop over the rules in resolve_conditional_paints (conditional.rs), up to its marks. `charged` is what the
-// charges so far came to. Once a charge is refused no more work is done. `scratch` has the values of the range, and is left cleared.
+// charges so far came to. Once a charge is refused no more work is done. `scratch` has the values of the range, and is left cleared. Where
+// it is shorter than the cells, or there are more than 1,024 regions, nothing is charged and nothing said.
 pub fn step_rule(
     rule: Rule,
     charged: Charged,
@@ -232,6 +251,11 @@ pub fn step_rule(
         (length (now (scratch .entry)))) ⌝ }
     ensures scratch { λ _. ⌜ now (scratch .exit) ≡ replicate (length (now (scratch .entry))) zeroF ⌝ }
 {
+    let room = scratch.len();
+    if !fits_in(rows.len(), region_rows.len(), room) {
+        lent::clear_f64(scratch);
+        return empty_step(false, charged);
+    }
     let spent = charge_after(rule, charged, limit, rows, cols);
     let plan = plan_within(
         spent,

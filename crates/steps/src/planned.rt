@@ -1,4 +1,4 @@
-// What a rule comes to, with the values of its range in lent scratch.
+// What a rule comes to, with the values of its range in lent scratch, which has room for a value of each cell.
 use charging::Charged;
 use model::CfRule;
 use model::Plan;
@@ -10,32 +10,22 @@ use plans::plan_of_operands;
 use plans::plan_of_values;
 use plans::takes_values;
 use ranges::within_grid;
-ghost use Prim.Native.Nat.{min};
+ghost use Prim.Native.Nat.{_≤_};
 ghost use mathlib.Core.Path.{_≡_};
 ghost use mathlib.Core.Bool.{false};
 ghost use mathlib.Core.List.{List};
-ghost use lib.ListN.{length, take};
+ghost use lib.ListN.{length};
 ghost use Rattle.charging.specs.declared.Counter.{Counter};
 ghost use Rattle.charging.specs.declared.Charged.{Charged};
 ghost use Rattle.model.specs.declared.CellCoordinate.{CellCoordinate};
 ghost use Rattle.model.specs.declared.CfRule.{CfRule};
 ghost use Rattle.model.specs.declared.Span.{Span};
-ghost use Rattle.model.specs.Rule.{cellsIn, numbers, planOf};
+ghost use Rattle.model.specs.Rule.{cellsIn, numbers, planOf, plan};
 ghost use Rattle.cells.specs.Columns.{columns, cellsOf};
 ghost use Rattle.ranges.specs.Turns.{sheetFrom};
 ghost use Rattle.plans.specs.Plans.{takesValues, planOfValues};
-ghost use Rattle.steps.specs.Step.{planIn};
 
-fn smaller(a: usize, b: usize) -> usize
-    ensures { λ r. ⌜ r ≡ min a b ⌝ }
-{
-    if a < b {
-        return a;
-    }
-    b
-}
-
-// By the values of the range, as many as there is room for.
+// By the values of the range.
 fn plan_by_values(
     kind: CfRule,
     range: Range,
@@ -48,13 +38,12 @@ fn plan_by_values(
     lens: &[u32],
     values: &mut [f64],
 ) -> Plan
-    ensures { λ r. ⌜ r ≡ planOfValues kind (take (length (now (values .entry))) (numbers (cellsIn range (cellsOf (columns
-        (now (rows .entry)) (now (cols .entry)) (now (kinds .entry)) (now (wraps .entry)) (now (nums .entry)) (now (ats .entry))
-        (now (lens .entry))))))) ⌝ }
+    requires { ⌜ length (now rows) ≤ length (now values) ⌝ }
+    ensures { λ r. ⌜ r ≡ planOfValues kind (numbers (cellsIn range (cellsOf (columns (now (rows .entry)) (now (cols .entry))
+        (now (kinds .entry)) (now (wraps .entry)) (now (nums .entry)) (now (ats .entry)) (now (lens .entry)))))) ⌝ }
 {
     let count = ranges::gather(range, rows, cols, kinds, wraps, nums, ats, lens, values);
-    let n = smaller(count, values.len());
-    plan_of_values(kind, &mut values[..n])
+    plan_of_values(kind, &mut values[..count])
 }
 
 // Port of the arm CfRule::DuplicateValues (conditional.rs) up to its regions, without its charge.
@@ -120,7 +109,7 @@ fn plan_without_values(
     }
 }
 
-// What a rule comes to, with room for as many values as `scratch` holds.
+// What a rule comes to.
 fn plan_rule(
     rule: Rule,
     rows: &[u32],
@@ -133,9 +122,10 @@ fn plan_rule(
     pool: &[u8],
     scratch: &mut [f64],
 ) -> Plan
-    ensures { λ r. ⌜ ((regions : List CellCoordinate) (name : Span) → r ≡ planIn (length (now (scratch .entry))) (sheetFrom (cellsOf
-        (columns (now (rows .entry)) (now (cols .entry)) (now (kinds .entry)) (now (wraps .entry)) (now (nums .entry)) (now (ats .entry))
-        (now (lens .entry)))) regions (now (pool .entry)) name) rule) ⌝ }
+    requires { ⌜ length (now rows) ≤ length (now scratch) ⌝ }
+    ensures { λ r. ⌜ ((regions : List CellCoordinate) (name : Span) → r ≡ plan (sheetFrom (cellsOf (columns (now (rows .entry))
+        (now (cols .entry)) (now (kinds .entry)) (now (wraps .entry)) (now (nums .entry)) (now (ats .entry)) (now (lens .entry))))
+        regions (now (pool .entry)) name) rule) ⌝ }
 {
     let range = rule.range;
     let kind = rule.kind;
@@ -173,8 +163,9 @@ pub(crate) fn plan_within(
     pool: &[u8],
     scratch: &mut [f64],
 ) -> Plan
+    requires { ⌜ length (now rows) ≤ length (now scratch) ⌝ }
     ensures { λ r. ⌜ ((regions : List CellCoordinate) (name : Span) (counter : Counter) → charged ≡ Charged.Within counter →
-        r ≡ planIn (length (now (scratch .entry))) (sheetFrom (cellsOf (columns (now (rows .entry)) (now (cols .entry)) (now (kinds .entry))
+        r ≡ plan (sheetFrom (cellsOf (columns (now (rows .entry)) (now (cols .entry)) (now (kinds .entry))
         (now (wraps .entry)) (now (nums .entry)) (now (ats .entry)) (now (lens .entry)))) regions (now (pool .entry)) name) rule) ⌝ }
 {
     match charged {

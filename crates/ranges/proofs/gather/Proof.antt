@@ -54,8 +54,8 @@ returns c =
     let cells = columns (now (a .rows)) (now (a .cols)) (now (a .kinds)) (now (a .wraps)) (now (a .nums)) (now (a .ats)) (now (a .lens)) in
     let e = stored .store-numbers .ensures in (
       e .0,
-      stored-over (length (now (a .values))) _ _ _ (numbers (cellsIn (a .range) (cellsOf cells))) (cleared .clear-f64 .ensures) (e .1) (e .0) _
-          (over .if1 .taken) (c .before .before .clear-f642 .ensures),
+      stored-over (length (now (a .values))) _ _ _ (numbers (cellsIn (a .range) (cellsOf cells))) (cleared .clear-f64 .ensures) (e .1)
+          (e .0) _ (over .if1 .taken) (c .before .before .clear-f642 .ensures),
     )
 
 same-length-2 : tie.Need-same-length-2
@@ -69,8 +69,8 @@ returns-2 c =
     let cells = columns (now (a .rows)) (now (a .cols)) (now (a .kinds)) (now (a .wraps)) (now (a .nums)) (now (a .ats)) (now (a .lens)) in
     let e = stored .store-numbers .ensures in (
       e .0,
-      stored-page (length (now (a .values))) _ _ _ (numbers (cellsIn (a .range) (cellsOf cells))) (cleared .clear-f64 .ensures) (e .1) (e .0)
-          (c .if1 .left),
+      stored-page (length (now (a .values))) _ _ _ (numbers (cellsIn (a .range) (cellsOf cells))) (cleared .clear-f64 .ensures) (e .1)
+          (e .0) (c .if1 .left),
     )
 
 pub gather-spec : {M : Type 1} → statement M

@@ -1,5 +1,5 @@
--- `ranges::store_numbers` meets its contract. The loop's invariant: the numbers left, stored after the n so far, make what all of them stored
--- from the front make. A number is stored at n and leaves those after it. The measure is what is left of the rows. Assumes nothing.
+-- `ranges::store_numbers` meets its contract. The loop's invariant: the numbers left, stored after the n so far, make what all of them
+-- stored from the front make. A number is stored at n and leaves those after it. The measure is what is left of the rows. Assumes nothing.
 use Prim.Native.Nat.{_-_}
 use mathlib.Core.Path.{sym, _∙_}
 use native.Mathlib.Omega.{arith}

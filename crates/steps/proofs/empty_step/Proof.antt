@@ -1,7 +1,7 @@
--- `steps::refused_step` meets its contract. Assumes nothing.
+-- `steps::empty_step` meets its contract. Assumes nothing.
 use borrow.Author.Needs.{needs}
-use Rattle.steps.proofs.refused_step.Statement.{statement}
-use Rattle.steps.proofs.refused_step.Tie as tie
+use Rattle.steps.proofs.empty_step.Statement.{statement}
+use Rattle.steps.proofs.empty_step.Tie as tie
 
 nothing-said-requires : tie.Need-nothing-said-requires
 nothing-said-requires c κs = search needs
@@ -9,5 +9,5 @@ nothing-said-requires c κs = search needs
 returns : tie.Need-returns
 returns c = rw (c .nothing-said .ensures)
 
-pub refused-step-spec : {M : Type 1} → statement M
-refused-step-spec = tie.close (tie.spec nothing-said-requires returns)
+pub empty-step-spec : {M : Type 1} → statement M
+empty-step-spec = tie.close (tie.spec nothing-said-requires returns)

@@ -1,7 +1,6 @@
 -- `steps::step_by` meets its contract: the charges ahead of the regions were accepted, or one of them was refused. Assumes nothing.
 use mathlib.Core.Path.{_∙_}
 use borrow.Author.Needs.{needs}
-use Rattle.steps.specs.Step.{stepFrom}
 use Rattle.steps.proofs.Laws.{from-refused}
 use Rattle.steps.proofs.step_by.Statement.{statement}
 use Rattle.steps.proofs.step_by.Tie as tie
@@ -18,18 +17,17 @@ tests-bar-requires c κs = search needs
 said-step-requires : tie.Need-said-step-requires
 said-step-requires c κs = search needs
 
-refused-step-requires : tie.Need-refused-step-requires
-refused-step-requires c κs = search needs
+empty-step-requires : tie.Need-empty-step-requires
+empty-step-requires c κs = search needs
 
 returns : tie.Need-returns
-unfolding stepFrom
 returns c regions =
     let found = c .before .before in
     rw (found .before .before .charged .given .1)
     (c .said-step .ensures ∙ rw (c .before .tests-bar .ensures, found .judge-plan .ensures regions))
 
 returns-2 : tie.Need-returns-2
-returns-2 c regions = c .refused-step .ensures ∙ from-refused _ _ _ _ (c .before .match .keys2)
+returns-2 c regions = c .empty-step .ensures ∙ from-refused _ _ _ _ (c .before .match .keys2)
 
 pub step-by-spec : {M : Type 1} → statement M
 step-by-spec =
@@ -39,6 +37,6 @@ step-by-spec =
     judge-plan-requires
     tests-bar-requires
     said-step-requires
-    refused-step-requires
+    empty-step-requires
     returns
     returns-2)

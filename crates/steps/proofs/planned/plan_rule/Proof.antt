@@ -2,8 +2,8 @@
 use mathlib.Core.Path.{sym, _∙_}
 use borrow.Author.Tests.{not-true, not-false}
 use borrow.Author.Needs.{needs}
-use Rattle.steps.proofs.Planning.{plan-in-inverted, plan-in-values, plan-in-without}
 use Rattle.model.specs.Rule.{values}
+use Rattle.plans.proofs.Laws.{plan-inverted, plan-upright, plan-of-values}
 use Rattle.steps.proofs.planned.plan_rule.Statement.{statement}
 use Rattle.steps.proofs.planned.plan_rule.Tie as tie
 
@@ -11,7 +11,7 @@ upright-requires : tie.Need-upright-requires
 upright-requires c κs = search needs
 
 returns : tie.Need-returns
-returns c regions name = plan-in-inverted _ _ _ (sym (c .before .upright .ensures) ∙ not-true _ (c .if1 .taken))
+returns c regions name = sym (plan-inverted _ _ (sym (c .before .upright .ensures) ∙ not-true _ (c .if1 .taken)))
 
 takes-values-requires : tie.Need-takes-values-requires
 takes-values-requires c κs = search needs
@@ -28,19 +28,17 @@ returns-2 c regions name =
     let taken = c .before .before .before .before in
     let up = taken .before .before in
     c .before .before .plan-by-values .ensures
-    ∙ plan-in-values _ _ _ (sym (up .before .upright .ensures) ∙ not-false _ (up .if1 .left))
-    (sym (taken .before .takes-values .ensures) ∙ taken .if2 .taken)
+    ∙ sym (plan-of-values _ _ (sym (taken .before .takes-values .ensures) ∙ taken .if2 .taken)
+    (sym (up .before .upright .ensures) ∙ not-false _ (up .if1 .left)))
 
 plan-without-values-requires : tie.Need-plan-without-values-requires
 plan-without-values-requires c κs = sym (c .before .takes-values .ensures) ∙ c .if2 .left
 
 returns-3 : tie.Need-returns-3
 returns-3 c regions name =
-    let other = c .before in
-    let up = other .before .before in
+    let up = c .before .before .before in
     c .plan-without-values .ensures regions name
-    ∙ plan-in-without _ _ _ (sym (up .before .upright .ensures) ∙ not-false _ (up .if1 .left))
-    (sym (other .before .takes-values .ensures) ∙ other .if2 .left)
+    ∙ sym (plan-upright _ _ (sym (up .before .upright .ensures) ∙ not-false _ (up .if1 .left)))
 
 pub plan-rule-spec : {M : Type 1} → statement M
 plan-rule-spec =
