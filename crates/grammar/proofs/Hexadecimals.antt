@@ -60,7 +60,7 @@ pub is-hex-value : (b : ℕ) → isHex b ≡ true → digitValue b < 16
 unfolding isHex
 is-hex-value b h = ltb-true _ _ h
 
-length-digits : (k n : ℕ) → length (hexDigits k n) ≡ k
+pub length-digits : (k n : ℕ) → length (hexDigits k n) ≡ k
 unfolding hexDigits
 length-digits zero n = refl
 length-digits (suc k) n = let h = length-digits k (n / 16) in simp length-append (omega arith)

@@ -3,15 +3,17 @@
 use Prim.Native.Nat.{ℕ, suc, _+_, _-_, _≤_, _<_}
 use native.Mathlib.Numerals.{add-one}
 use native.Mathlib.Omega.{arith}
-use mathlib.Core.Path.{_≡_, refl, sym, _∙_}
+use mathlib.Core.Path.{_≡_, refl, sym, ap, _∙_}
 use mathlib.Core.Bool.{Bool, true, false}
 use mathlib.Core.List.{List, _++_, append-assoc, append-nil}
 use lib.Dec.{leb}
-use lib.ListN.{length, take, drop, set, length-set}
+use lib.ListN.{length, take, drop, set, replicate, length-set}
 use lib.Seq.{take-all, take-suc-set, take-append-seam, sets-eq}
 use borrow.Author.Tests.{leb-true, leb-false, le-leb, lt-leb}
-use Rattle.put.specs.Laid.{last, Laid, keptLength, keptBytes, page, pageLength}
-use Rattle.put.proofs.Laws.{laid-length}
+use Rattle.memory.specs.Memory.{page, pageLength}
+use Rattle.memory.proofs.Laws.{text-fits, text-over}
+use Rattle.put.specs.Laid.{last, Laid, keptLength, keptBytes}
+use Rattle.put.proofs.Laws.{laid-length, fits-next, fits-bytes, over-next}
 
 -- ---- zeros from a place on
 
@@ -38,6 +40,9 @@ clearing-done {from} {l₀} {l} {i} c h =
     let all : keptBytes l i ≡ l = rw (take-all i l, e, append-nil) in
     sym all ∙ c .bytes
 
+pub none-kept : (l : List ℕ) → keptBytes l 0 ≡ replicate (length l) 0
+none-kept l = let e : length l - 0 ≡ length l = omega arith in rw e
+
 -- ---- a text that is kept
 
 pub kept-whole : (n end : ℕ) → end ≤ n → end ≡ keptLength n end
@@ -46,17 +51,6 @@ kept-whole n end h = rw (le-leb end n h)
 pub kept-none : (n end : ℕ) → n < end → 0 ≡ keptLength n end
 kept-none n end h = rw (lt-leb end n h)
 
-pub kept-most : (n end : ℕ) → keptLength n end ≤ n
-kept-most n end = go (leb end n) refl
-  where
-    go : (x : Bool) → leb end n ≡ x → keptLength n end ≤ n
-    go true e = rw e (leb-true _ _ e)
-    go false e = rw e (omega arith)
-
-pub page-length-most : (n : ℕ) (ts : List ℕ) → pageLength n ts ≤ n
-unfolding pageLength
-page-length-most n ts = kept-most n (length ts)
-
 -- a text laid from the start, and kept: a page of it
 pub record Page (n : ℕ) (ts f : List ℕ) (r : ℕ) : Type 0 where
   pub length : r ≡ pageLength n ts
@@ -64,32 +58,25 @@ pub record Page (n : ℕ) (ts f : List ℕ) (r : ℕ) : Type 0 where
 
 module _ {d ts e f : List ℕ} {q r : ℕ} (room : length d < last) (a : Laid d 0 ts e q) (k : r ≡ keptLength (length e) q)
     (b : f ≡ keptBytes e r) where
+  long : length e ≡ length d
+  long = laid-length a
+
   fits : length ts ≤ length d → Page (length d) ts f r
-  unfolding page pageLength
   fits h =
-      let n = a .next in
-      let long : length e ≡ length d = laid-length a in
-      let end : q ≡ length ts = omega arith in
+      let text = text-fits (length d) ts h in
+      let end : q ≡ length ts = omega (arith, fits-next a (omega arith)) in
       let kept : r ≡ length ts = k ∙ rw (end, long, le-leb (length ts) (length d) h) in
-      let laid : e ≡ ts ++ drop (0 + length ts) d = a .bytes ∙ sets-eq ts d 0 (omega arith) in
+      let laid : e ≡ ts ++ drop (0 + length ts) d = fits-bytes a (omega arith) ∙ sets-eq ts d 0 (omega arith) in
       let first : take (length ts) e ≡ ts = rw laid (take-append-seam ts _) in
-      record {
-        length = rw (le-leb (length ts) (length d) h) kept;
-        bytes = rw (le-leb (length ts) (length d) h) (b ∙ rw (kept, first, long));
-      }
+      record { length = kept ∙ sym (text .0); bytes = b ∙ ((rw (kept, first, long)) ∙ sym (text .1)) }
 
   over : length d < length ts → Page (length d) ts f r
-  unfolding page pageLength
   over h =
-      let n = a .next in
-      let long : length e ≡ length d = laid-length a in
-      let end : length e < q = omega arith in
-      let kept : r ≡ 0 = k ∙ rw (lt-leb q (length e) end) in
-      let all : length e - 0 ≡ length d = omega arith in
-      record {
-        length = rw (lt-leb (length ts) (length d) h) kept;
-        bytes = rw (lt-leb (length ts) (length d) h) (b ∙ rw (kept, all));
-      }
+      let text = text-over (length d) ts h in
+      let end : q ≡ last = over-next a (omega arith) in
+      let kept : r ≡ 0 = k ∙ rw (lt-leb q (length e) (omega (arith, long))) in
+      let zeros : keptBytes e 0 ≡ replicate (length d) 0 = none-kept e ∙ ap (λ (n : ℕ). replicate n 0) long in
+      record { length = kept ∙ sym (text .0); bytes = b ∙ ((rw kept zeros) ∙ sym (text .1)) }
 
   pub kept-page : Page (length d) ts f r
   kept-page = go (leb (length ts) (length d)) refl

@@ -1,122 +1,142 @@
 -- Laws of writing one piece of text after another, straight on and in a loop.
 -- Assumes nothing.
-use Prim.Native.Nat.{ℕ, zero, suc, _+_, _-_, _/_, _%_, _≤_, _<_, min}
-use native.Mathlib.Nat.{not-suc-le-zero}
-use native.Mathlib.Numerals.{add-one}
+use Prim.Native.Nat.{ℕ, _+_, _-_, _≤_, _<_}
 use native.Mathlib.Omega.{arith}
 use mathlib.Core.Path.{_≡_, refl, sym, ap, _∙_}
 use mathlib.Core.Bool.{Bool, true, false}
-use mathlib.Core.List.{List, [], _∷_, _++_}
+use mathlib.Core.List.{List, [], _++_}
 use lib.Dec.{leb}
-use lib.ListN.{length, drop, getD, set, length-append}
-use lib.Seq.{drop-cons, sets, set-out, length-sets}
-use borrow.Author.Tests.{leb-true, leb-false}
-use Rattle.grammar.specs.Numbers.{hexDigit, hexDigits}
-use Rattle.put.specs.Laid.{last, Laid}
+use lib.ListN.{length, replicate, length-append}
+use lib.Seq.{sets}
+use borrow.Author.Tests.{leb-true, leb-false, le-leb, lt-leb}
+use Rattle.memory.specs.Memory.{allOrZeros}
+use Rattle.memory.proofs.Laws.{all-fits, all-over, all-append, length-all}
+use Rattle.put.specs.Laid.{last, placeAfter, Laid, Ready}
 
-sets-out : (d : List ℕ) (i : ℕ) (ts : List ℕ) → length d ≤ i → sets d i ts ≡ d
-sets-out d i [] h = refl
-sets-out d i (t ∷ ts) h = rw (set-out d i t h) (sets-out d (suc i) ts (omega arith))
+-- ---- a piece
 
-sets-append : (d : List ℕ) (i : ℕ) (xs ys : List ℕ) → sets d i (xs ++ ys) ≡ sets (sets d i xs) (i + length xs) ys
-sets-append d i [] ys = let e : i + 0 ≡ i = omega arith in rw e
-sets-append d i (x ∷ xs) ys =
-    let e : i + suc (length xs) ≡ suc i + length xs = omega arith in
-    rw e (sets-append (set d i x) (suc i) xs ys)
+pub room-left : (size at n : ℕ) → at ≤ size → leb n (size - at) ≡ leb (at + n) size
+room-left size at n h = go (leb n (size - at)) refl
+  where
+    go : (b : Bool) → leb n (size - at) ≡ b → leb n (size - at) ≡ leb (at + n) size
+    go true e = e ∙ sym (le-leb (at + n) size (omega (arith, leb-true n (size - at) e)))
+    go false e = e ∙ sym (lt-leb (at + n) size (omega (arith, leb-false n (size - at) e)))
 
--- ---- pieces
+module _ {d e : List ℕ} {at r : ℕ} {ts : List ℕ} where
+  pub laid-fits : at + length ts ≤ length d → e ≡ sets d at ts → r ≡ at + length ts → Laid d at ts e r
+  laid-fits h b n = record { bytes = b ∙ sym (all-fits 0 d at ts h); next = rw (le-leb (at + length ts) (length d) h) n }
 
-pub laid-none : (d : List ℕ) (at : ℕ) → at ≤ last → Laid d at [] d at
-laid-none d at h = record { bytes = refl; next = omega arith }
+  pub laid-over : length d < at + length ts → e ≡ replicate (length d) 0 → r ≡ last → Laid d at ts e r
+  laid-over h b n = record { bytes = b ∙ sym (all-over 0 d at ts true h); next = rw (lt-leb (at + length ts) (length d) h) n }
 
--- a byte past the end
-pub laid-past : (d : List ℕ) (at b r : ℕ) → length d ≤ at → r ≡ min (at + 1) last → Laid d at (b ∷ []) d r
-laid-past d at b r h e = record { bytes = sym (set-out d at b h); next = e }
+  -- the same text under another name
+  pub laid-as : {us : List ℕ} → Laid d at ts e r → us ≡ ts → Laid d at us e r
+  laid-as a p = rw p a
 
--- the same text under another name
-pub laid-as : {d e : List ℕ} {at r : ℕ} {xs ys : List ℕ} → Laid d at xs e r → ys ≡ xs → Laid d at ys e r
-laid-as a p = rw p a
+-- nothing, within the bytes
+pub laid-none : (d : List ℕ) (at : ℕ) → at ≤ length d → Ready d at
+laid-none d at h = laid-fits (omega arith) refl (omega arith)
 
-pub laid-length : {d e : List ℕ} {at r : ℕ} {xs : List ℕ} → Laid d at xs e r → length e ≡ length d
-laid-length {d} {e} {at} {r} {xs} a = ap length (a .bytes) ∙ length-sets d at xs
+module _ {d e : List ℕ} {at r : ℕ} {ts : List ℕ} (a : Laid d at ts e r) where
+  pub laid-length : length e ≡ length d
+  laid-length = ap length (a .bytes) ∙ length-all 0 d at ts true
 
-pub laid-most : {d e : List ℕ} {at r : ℕ} {xs : List ℕ} → Laid d at xs e r → r ≤ last
-laid-most a = let n = a .next in omega arith
+  pub fits-next : at + length ts ≤ length d → r ≡ at + length ts
+  fits-next h = a .next ∙ rw (le-leb (at + length ts) (length d) h)
 
-module _ {d e f : List ℕ} {at r q : ℕ} {xs ys : List ℕ} (room : length d ≤ last) (a : Laid d at xs e r) (b : Laid e r ys f q) where
-  -- past 2^64 - 1 the true place and the one held are both past the end
-  rest : (x : Bool) → leb (at + length xs) last ≡ x
-      → sets (sets d at xs) (min (at + length xs) last) ys ≡ sets (sets d at xs) (at + length xs) ys
-  rest true e =
-      let h : at + length xs ≤ last = leb-true _ _ e in
-      let g : min (at + length xs) last ≡ at + length xs = omega arith in
-      rw g
-  rest false e =
-      let h : last < at + length xs = leb-false _ _ e in
-      let l : length (sets d at xs) ≡ length d = length-sets d at xs in
-      sets-out (sets d at xs) (min (at + length xs) last) ys (omega arith)
-      ∙ sym (sets-out (sets d at xs) (at + length xs) ys (omega arith))
+  pub fits-bytes : at + length ts ≤ length d → e ≡ sets d at ts
+  fits-bytes h = a .bytes ∙ all-fits 0 d at ts h
 
-  -- one piece after another
-  pub laid-then : Laid d at (xs ++ ys) f q
-  laid-then =
-      let n = a .next in
-      let m = b .next in
-      let k : length (xs ++ ys) ≡ length xs + length ys = length-append xs ys in
+  pub over-next : length d < at + length ts → r ≡ last
+  over-next h = a .next ∙ rw (lt-leb (at + length ts) (length d) h)
+
+  pub over-bytes : length d < at + length ts → e ≡ replicate (length d) 0
+  over-bytes h = a .bytes ∙ all-over 0 d at ts true h
+
+  -- what comes next can go on from there
+  pub laid-ready : length d < last → Ready e r
+  laid-ready room = go (leb (at + length ts) (length d)) refl
+    where
+      go : (b : Bool) → leb (at + length ts) (length d) ≡ b → Ready e r
+      go true t =
+          let h : at + length ts ≤ length d = leb-true _ _ t in
+          laid-none e r (omega (arith, laid-length, fits-next h))
+      go false t =
+          let h : length d < at + length ts = leb-false _ _ t in
+          laid-over (omega (arith, laid-length, over-next h)) (over-bytes h ∙ ap (λ (n : ℕ). replicate n 0) (sym laid-length)) (over-next h)
+
+-- ---- one piece after another
+
+module _ {d e f : List ℕ} {at r q : ℕ} {xs ys : List ℕ} (room : length d < last) (a : Laid d at xs e r) (b : Laid e r ys f q) where
+  more : length (xs ++ ys) ≡ length xs + length ys
+  more = length-append xs ys
+
+  both : at + length xs ≤ length d → Laid d at (xs ++ ys) f q
+  both h =
+      let n : r ≡ at + length xs = fits-next a h in
+      let end : r + length ys ≡ at + length (xs ++ ys) = omega (arith, more) in
       record {
         bytes = b .bytes
-            ∙ (ap (λ (l : List ℕ). sets l r ys) (a .bytes)
-            ∙ (ap (λ (i : ℕ). sets (sets d at xs) i ys) n ∙ (rest (leb (at + length xs) last) refl ∙ sym (sets-append d at xs ys))));
-        next = rw k (omega arith);
+            ∙ (ap (λ (l : List ℕ). allOrZeros true l r ys) (a .bytes)
+            ∙ (ap (λ (i : ℕ). allOrZeros true (allOrZeros true d at xs) i ys) n ∙ sym (all-append 0 d at xs ys)));
+        next = b .next ∙ rw (end, laid-length a);
       }
+
+  -- once a piece does not fit, none does
+  over : length d < at + length xs → Laid d at (xs ++ ys) f q
+  over h =
+      let past : length e < r + length ys = omega (arith, laid-length a, over-next a h) in
+      laid-over (omega (arith, more)) (over-bytes b past ∙ ap (λ (n : ℕ). replicate n 0) (laid-length a)) (over-next b past)
+
+  pub laid-then : Laid d at (xs ++ ys) f q
+  laid-then = go (leb (at + length xs) (length d)) refl
+    where
+      go : (x : Bool) → leb (at + length xs) (length d) ≡ x → Laid d at (xs ++ ys) f q
+      go true t = both (leb-true _ _ t)
+      go false t = over (leb-false _ _ t)
 
 -- ---- pieces in a loop
 
 -- laying us over e from q on gives what laying ts over d from `at` on gives
 pub record LaidLeft (d : List ℕ) (at : ℕ) (ts e : List ℕ) (q : ℕ) (us : List ℕ) : Type 0 where
-  pub bytes : sets e q us ≡ sets d at ts
-  pub next : min (q + length us) last ≡ min (at + length ts) last
-  pub most : q ≤ last
-  pub long : length e ≡ length d
+  pub whole : Laid d at ts (allOrZeros true e q us) (placeAfter (length e) q (length us))
+  pub ready : Ready e q
 
-pub left-begun : {d : List ℕ} {at : ℕ} {ts : List ℕ} → at ≤ last → LaidLeft d at ts d at ts
-left-begun h = record { bytes = refl; next = refl; most = h; long = refl }
+pub left-begun : {d : List ℕ} {at : ℕ} {ts : List ℕ} → Ready d at → LaidLeft d at ts d at ts
+left-begun r = record { whole = record { bytes = refl; next = refl }; ready = r }
+
+pub left-length : {d e : List ℕ} {at q : ℕ} {ts us : List ℕ} → LaidLeft d at ts e q us → length e ≡ length d
+left-length {d} {e} {at} {q} {ts} {us} l = sym (length-all 0 e q us true) ∙ laid-length (l .whole)
 
 -- the piece xs is the first of what was left
-pub left-more : {d e f : List ℕ} {at q r : ℕ} {ts vs xs us : List ℕ} → length d ≤ last → LaidLeft d at ts e q vs
+pub left-more : {d e f : List ℕ} {at q r : ℕ} {ts vs xs us : List ℕ} → length d < last → LaidLeft d at ts e q vs
     → vs ≡ xs ++ us → Laid e q xs f r → LaidLeft d at ts f r us
 left-more {d} {e} {f} {at} {q} {r} {ts} {vs} {xs} {us} room l p a =
-    let long = l .long in
-    let whole : Laid e q (xs ++ us) (sets f r us) (min (r + length us) last) =
-    laid-then (omega arith) a (record { bytes = refl; next = refl }) in
+    let long : length e < last = omega (arith, left-length l) in
+    let rest : Laid e q (xs ++ us) (allOrZeros true f r us) (placeAfter (length f) r (length us)) =
+    laid-then long a (record { bytes = refl; next = refl }) in
     record {
-      bytes = whole .bytes ∙ (ap (λ (x : List ℕ). sets e q x) (sym p) ∙ l .bytes);
-      next = whole .next ∙ (ap (λ (x : List ℕ). min (q + length x) last) (sym p) ∙ l .next);
-      most = laid-most a;
-      long = laid-length a ∙ long;
+      whole = record {
+        bytes = rest .bytes ∙ (ap (λ (x : List ℕ). allOrZeros true e q x) (sym p) ∙ l .whole .bytes);
+        next = rest .next ∙ (ap (λ (x : List ℕ). placeAfter (length e) q (length x)) (sym p) ∙ l .whole .next);
+      };
+      ready = laid-ready a long;
     }
-
--- nothing to lay in a turn
-pub left-same : {d e : List ℕ} {at q : ℕ} {ts vs us : List ℕ} → LaidLeft d at ts e q vs → vs ≡ us → LaidLeft d at ts e q us
-left-same l p = rw p at l
 
 pub left-done : {d e : List ℕ} {at q : ℕ} {ts vs : List ℕ} → LaidLeft d at ts e q vs → vs ≡ [] → Laid d at ts e q
 left-done {d} {e} {at} {q} {ts} {vs} l p =
-    let m = l .most in
-    let n : min (q + length vs) last ≡ q = rw p (omega arith) in
-    record { bytes = sym (ap (λ (x : List ℕ). sets e q x) p) ∙ l .bytes; next = sym n ∙ l .next }
+    record {
+      bytes = l .ready .bytes ∙ (ap (λ (x : List ℕ). allOrZeros true e q x) (sym p) ∙ l .whole .bytes);
+      next = l .ready .next ∙ (ap (λ (x : List ℕ). placeAfter (length e) q (length x)) (sym p) ∙ l .whole .next);
+    }
 
--- what stands from a place on: the byte there, and what stands from the next place on
-pub drop-next : (w : List ℕ) (i : ℕ) → i < length w → drop i w ≡ (getD w i 0 ∷ []) ++ drop (i + 1) w
-drop-next w i h = rw (add-one, drop-cons w i 0)
-
--- ---- hexadecimal digits
-
-pub hex-none : (k v : ℕ) → k ≡ 0 → hexDigits k v ≡ []
-unfolding hexDigits
-hex-none k v e = rw e
-
-pub hex-more : (k v g : ℕ) → 0 < k → g ≡ hexDigit (v % 16) → hexDigits k v ≡ hexDigits (k - 1) (v / 16) ++ (g ∷ [])
-unfolding hexDigits
-hex-more (suc k) v g h e = let p : suc k - 1 ≡ k = omega arith in rw (p, e)
-hex-more zero v g h e = absurd (not-suc-le-zero h)
+-- a piece did not fit: nothing that is left does
+pub left-stopped : {d e : List ℕ} {at q : ℕ} {ts vs : List ℕ} → length d < last → LaidLeft d at ts e q vs → q ≡ last → Laid d at ts e q
+left-stopped {d} {e} {at} {q} {ts} {vs} room l s =
+    let past : length e < q = omega (arith, left-length l) in
+    let zeros : e ≡ replicate (length e) 0 = over-bytes (l .ready) (omega arith) in
+    let rest : Laid e q vs (allOrZeros true e q vs) (placeAfter (length e) q (length vs)) = record { bytes = refl; next = refl } in
+    record {
+      bytes = zeros ∙ (sym (all-over 0 e q vs true (omega arith)) ∙ l .whole .bytes);
+      next = s ∙ (sym (over-next rest (omega arith)) ∙ l .whole .next);
+    }

@@ -1,2 +1,4 @@
 pub mod Laws
+pub mod Storing
 pub mod Keeping
+pub mod Examples

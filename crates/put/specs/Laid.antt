@@ -1,20 +1,28 @@
--- Writing text into lent bytes at a place: what does not fit is left out, and the place counts on, up to 2^64 - 1, which no slice reaches.
+-- Writing text into lent bytes at a place: all of it, or zeros from end to end and the place 2^64 - 1, which no slice reaches.
 -- Assumes nothing.
-use Prim.Native.Nat.{ℕ, _+_, _-_, min}
+use Prim.Native.Nat.{ℕ, _+_, _-_}
 use mathlib.Core.Path.{_≡_}
-use mathlib.Core.Bool.{cond}
-use mathlib.Core.List.{List, _++_}
+use mathlib.Core.Bool.{true, cond}
+use mathlib.Core.List.{List, [], _++_}
 use lib.Dec.{leb}
 use lib.ListN.{length, take, replicate}
-use lib.Seq.{sets}
+use Rattle.memory.specs.Memory.{fits, allOrZeros}
 
 abbrev pub last : ℕ
 last = 18_446_744_073_709_551_615
 
--- e is d with the bytes ts laid over it from `at` on, as far as they are within it, and r is the place after them
+-- the place behind n bytes from `at` on, or the one that says that they do not fit
+abbrev pub placeAfter : ℕ → ℕ → ℕ → ℕ
+placeAfter size at n = cond (fits size at n) (at + n) last
+
+-- e is d with the bytes ts in it from `at` on, or zeros; r is the place behind them
 pub record Laid (d : List ℕ) (at : ℕ) (ts e : List ℕ) (r : ℕ) : Type 0 where
-  pub bytes : e ≡ sets d at ts
-  pub next : r ≡ min (at + length ts) last
+  pub bytes : e ≡ allOrZeros true d at ts
+  pub next : r ≡ placeAfter (length d) at (length ts)
+
+-- a place to go on from: nothing laid there changes nothing
+abbrev pub Ready : List ℕ → ℕ → Type 0
+Ready d at = Laid d at [] d at
 
 -- how many of n bytes a text takes that ends at `end`: 0 where it is longer
 abbrev pub keptLength : ℕ → ℕ → ℕ
@@ -23,10 +31,3 @@ keptLength n end = cond (leb end n) end 0
 -- the first bytes of d, and zeros behind them
 abbrev pub keptBytes : List ℕ → ℕ → List ℕ
 keptBytes d r = take r d ++ replicate (length d - r) 0
-
--- a text in n bytes, with zeros behind it; only zeros where it is longer
-unfoldable pub page : ℕ → List ℕ → List ℕ
-page n ts = cond (leb (length ts) n) (ts ++ replicate (n - length ts) 0) (replicate n 0)
-
-unfoldable pub pageLength : ℕ → List ℕ → ℕ
-pageLength n ts = keptLength n (length ts)

@@ -1,12 +1,22 @@
-// Text written into lent bytes, piece after piece: each function hands back the place after its piece.
+// Text written into lent bytes, piece after piece: each function hands back the place after its piece. A piece that does not fit leaves
+// zeros from end to end.
 ghost use Prim.Native.Nat.{_<_};
 ghost use mathlib.Core.Path.{_≡_};
 ghost use mathlib.Core.List.{[], _∷_, _++_};
 ghost use lib.ListN.{length};
+ghost use Rattle.memory.specs.Memory.{fits};
 ghost use Rattle.grammar.specs.Numbers.{decimalText, hexDigit, hexDigits};
 ghost use Rattle.put.specs.Laid.{Laid, keptLength, keptBytes};
 
-const LAST: usize = 18446744073709551615;
+// The place after a piece that does not fit.
+pub const LAST: usize = 18446744073709551615;
+
+// Whether n bytes from a place on are within a length.
+fn has_room(len: usize, at: usize, n: usize) -> bool
+    ensures { λ r. ⌜ r ≡ fits len at n ⌝ }
+{
+    at <= len && n <= len - at
+}
 
 pub fn put_byte(text: &mut [u8], at: usize, b: u8) -> usize
     ensures { λ r. ⌜ Laid (now (text .entry)) at (b ∷ []) (now (text .exit)) r ⌝ }
@@ -15,22 +25,23 @@ pub fn put_byte(text: &mut [u8], at: usize, b: u8) -> usize
         text[at] = b;
         return at + 1;
     }
-    if at < LAST {
-        return at + 1;
-    }
+    clear_from(text, 0);
     LAST
 }
 
 pub fn put_bytes(text: &mut [u8], at: usize, piece: &[u8]) -> usize
     ensures { λ r. ⌜ Laid (now (text .entry)) at (now (piece .entry)) (now (text .exit)) r ⌝ }
 {
-    let mut end = at;
+    if !has_room(text.len(), at, piece.len()) {
+        clear_from(text, 0);
+        return LAST;
+    }
     let mut i = 0;
     while i < piece.len() {
-        end = put_byte(text, end, piece[i]);
+        text[at + i] = piece[i];
         i += 1;
     }
-    end
+    at + i
 }
 
 // A number in decimal.
@@ -68,12 +79,18 @@ fn hex_digit(d: u64) -> u8
 pub fn put_hex(text: &mut [u8], at: usize, k: usize, n: u64) -> usize
     ensures { λ r. ⌜ Laid (now (text .entry)) at (hexDigits k n) (now (text .exit)) r ⌝ }
 {
-    if k == 0 {
-        at
-    } else {
-        let end = put_hex(text, at, k - 1, n / 16);
-        put_byte(text, end, hex_digit(n % 16))
+    if !has_room(text.len(), at, k) {
+        clear_from(text, 0);
+        return LAST;
     }
+    let mut left = k;
+    let mut rest = n;
+    while left > 0 {
+        left -= 1;
+        text[at + left] = hex_digit(rest % 16);
+        rest = rest / 16;
+    }
+    at + k
 }
 
 // Zeros from a place on.

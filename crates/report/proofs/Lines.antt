@@ -5,8 +5,11 @@ use native.Mathlib.Numerals.{add-one}
 use native.Mathlib.Omega.{arith}
 use mathlib.Core.Path.{_≡_}
 use mathlib.Core.List.{List, [], _++_}
+use lib.ListN.{length}
 use borrow.Author.Tests.{eq-eqb, ne-eqb}
 use Rattle.grammar.specs.Parts.{timesText}
+use Rattle.put.specs.Laid.{last, Laid}
+use Rattle.put.proofs.Laws.{LaidLeft, left-more}
 use Rattle.reporttext.specs.Report.{space, lineFeed, number, markLine, barLine, barLines}
 use Rattle.reporttext.specs.Held.{markIn, marksIn, barOf, barIn, barsIn}
 
@@ -21,9 +24,14 @@ module _ (regions rules kinds colours ppms : List ℕ) where
   unfolding marksFrom
   marks-all n = let e : n - 0 ≡ n = omega arith in rw e
 
-  pub marks-next : (n i : ℕ) → i < n → marksFrom n i ≡ markLine (markIn regions rules kinds colours ppms i) ++ marksFrom n (i + 1)
+  marks-next : (n i : ℕ) → i < n → marksFrom n i ≡ markLine (markIn regions rules kinds colours ppms i) ++ marksFrom n (i + 1)
   unfolding marksFrom marksIn timesText
   marks-next n i h = let e : n - i ≡ suc (n - suc i) = omega arith in rw (add-one, e)
+
+  -- a line more
+  pub marks-more : {d e f : List ℕ} {at q r : ℕ} (n i : ℕ) → length d < last → i < n → LaidLeft d at (marksFrom n 0) e q (marksFrom n i)
+      → Laid e q (markLine (markIn regions rules kinds colours ppms i)) f r → LaidLeft d at (marksFrom n 0) f r (marksFrom n (i + 1))
+  marks-more n i room h l a = left-more room l (marks-next n i h) a
 
   pub marks-none : (n i : ℕ) → n ≤ i → marksFrom n i ≡ []
   unfolding marksFrom marksIn timesText
@@ -50,9 +58,14 @@ module _ (rules ppms : List ℕ) where
   unfolding barsFrom
   bars-all n = let e : n - 0 ≡ n = omega arith in rw e
 
-  pub bars-next : (n i : ℕ) → i < n → barsFrom n i ≡ barLine i (barIn rules ppms i) ++ barsFrom n (i + 1)
+  bars-next : (n i : ℕ) → i < n → barsFrom n i ≡ barLine i (barIn rules ppms i) ++ barsFrom n (i + 1)
   unfolding barsFrom barsIn barLines
   bars-next n i h = let e : n - i ≡ suc (n - suc i) = omega arith in rw (add-one, e)
+
+  -- a line more
+  pub bars-more : {d e f : List ℕ} {at q r : ℕ} (n i : ℕ) → length d < last → i < n → LaidLeft d at (barsFrom n 0) e q (barsFrom n i)
+      → Laid e q (barLine i (barIn rules ppms i)) f r → LaidLeft d at (barsFrom n 0) f r (barsFrom n (i + 1))
+  bars-more n i room h l a = left-more room l (bars-next n i h) a
 
   pub bars-none : (n i : ℕ) → n ≤ i → barsFrom n i ≡ []
   unfolding barsFrom barsIn barLines

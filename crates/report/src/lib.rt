@@ -2,22 +2,26 @@
 use lent::at_u32;
 use model::Answer;
 use model::Paint;
+use put::LAST;
 use put::keep;
 use put::put_byte;
 use put::put_bytes;
 use put::put_hex;
 use put::put_number;
 use ratio::bar_cells;
+ghost use Prim.Native.Nat.{min};
 ghost use mathlib.Core.Path.{_≡_};
 ghost use mathlib.Core.List.{_++_};
 ghost use lib.ListN.{length};
+ghost use Rattle.memory.specs.Memory.{pageOf};
 ghost use Rattle.model.specs.Answer.{refusal, summary};
 ghost use Rattle.grammar.specs.Parts.{timesText};
-ghost use Rattle.put.specs.Laid.{Laid, page, pageLength};
+ghost use Rattle.put.specs.Laid.{Laid, Ready};
 ghost use Rattle.reporttext.specs.Report.{number, colour, dash, orDash, paintText, markLine, barLine, barLines};
 ghost use Rattle.reporttext.specs.Report.{summaryText, marksText, barsText, reportOf};
-ghost use Rattle.reporttext.specs.Held.{markOf, markIn, marksIn, barOf, barsIn, printed, resultIn};
+ghost use Rattle.reporttext.specs.Held.{markOf, markIn, marksIn, barOf, barsIn, printed, resultIn, holdsMarks};
 ghost use Rattle.report.specs.Figures.{summaryOf};
+ghost use Rattle.report.specs.Printed.{printedLength, isRefusal};
 
 // ---- the values of an answer
 
@@ -166,7 +170,7 @@ fn put_mark_at(
     put_mark(text, at, at_u32(regions, i), at_u32(rules, i), paint)
 }
 
-// The lines of n marks.
+// The lines of n marks, up to the first that does not fit.
 fn put_mark_lines(
     text: &mut [u8],
     at: usize,
@@ -177,6 +181,7 @@ fn put_mark_lines(
     colours: &[u32],
     ppms: &[u32],
 ) -> usize
+    requires { ⌜ Ready (now text) at ⌝ }
     ensures { λ r. ⌜ Laid (now (text .entry)) at (timesText markLine (marksIn (now (regions .entry)) (now (rules .entry))
         (now (kinds .entry)) (now (colours .entry)) (now (ppms .entry)) 0 n)) (now (text .exit)) r ⌝ }
 {
@@ -184,6 +189,9 @@ fn put_mark_lines(
     let mut i = 0;
     while i < n {
         end = put_mark_at(text, end, i as usize, regions, rules, kinds, colours, ppms);
+        if end == LAST {
+            return end;
+        }
         i += 1;
     }
     end
@@ -191,6 +199,7 @@ fn put_mark_lines(
 
 // The line of a region's bar, by the rule plus one; none where that is 0.
 fn put_bar(text: &mut [u8], at: usize, region: usize, rule: u32, ppm: u32) -> usize
+    requires { ⌜ Ready (now text) at ⌝ }
     ensures { λ r. ⌜ Laid (now (text .entry)) at (barLine region (barOf rule ppm)) (now (text .exit)) r ⌝ }
 {
     if rule == 0 {
@@ -201,7 +210,9 @@ fn put_bar(text: &mut [u8], at: usize, region: usize, rule: u32, ppm: u32) -> us
     put_number(text, second, ppm as u64, b'\n')
 }
 
+// The lines of all bars, up to the first that does not fit.
 fn put_bar_lines(text: &mut [u8], at: usize, rules: &[u32], ppms: &[u32]) -> usize
+    requires { ⌜ Ready (now text) at ⌝ }
     ensures { λ r. ⌜ Laid (now (text .entry)) at (barLines 0 (barsIn (now (rules .entry)) (now (ppms .entry)) 0
         (length (now (rules .entry))))) (now (text .exit)) r ⌝ }
 {
@@ -209,6 +220,9 @@ fn put_bar_lines(text: &mut [u8], at: usize, rules: &[u32], ppms: &[u32]) -> usi
     let mut i = 0;
     while i < rules.len() {
         end = put_bar(text, end, i, rules[i], at_u32(ppms, i));
+        if end == LAST {
+            return end;
+        }
         i += 1;
     }
     end
@@ -239,7 +253,23 @@ fn put_answer(
     put_bar_lines(text, barnames, barrules, barppms)
 }
 
-// The report of an answer and the columns that come with it: its length, 0 where it is longer than the lent bytes.
+fn lesser(a: usize, b: usize) -> usize
+    ensures { λ r. ⌜ r ≡ min a b ⌝ }
+{
+    if a < b { a } else { b }
+}
+
+// How many marks the mark columns hold: the length of the shortest.
+fn mark_space(regions: &[u32], rules: &[u32], kinds: &[u32], colours: &[u32], ppms: &[u32]) -> usize
+    ensures { λ r. ⌜ r ≡ min (length (now (regions .entry))) (min (length (now (rules .entry))) (min (length (now (kinds .entry)))
+        (min (length (now (colours .entry))) (length (now (ppms .entry)))))) ⌝ }
+{
+    let three = lesser(kinds.len(), lesser(colours.len(), ppms.len()));
+    lesser(regions.len(), lesser(rules.len(), three))
+}
+
+// The report of an answer and the columns that come with it: its length, 0 where it is longer than the lent bytes or where the columns do
+// not hold all the marks.
 pub fn write_report(
     answer: Answer,
     regions: &[u32],
@@ -251,16 +281,24 @@ pub fn write_report(
     barppms: &[u32],
     report: &mut [u8],
 ) -> usize
-    ensures length { λ r. ⌜ r ≡ pageLength (length (now (report .entry))) (reportOf (resultIn (summary answer)
+    ensures length { λ r. ⌜ r ≡ printedLength (holdsMarks (summary answer) (printed (now (regions .entry)) (now (rules .entry))
+        (now (kinds .entry)) (now (colours .entry)) (now (ppms .entry)) (now (barrules .entry)) (now (barppms .entry))))
+        (length (now (report .entry))) (reportOf (resultIn (summary answer)
         (printed (now (regions .entry)) (now (rules .entry)) (now (kinds .entry)) (now (colours .entry)) (now (ppms .entry))
         (now (barrules .entry)) (now (barppms .entry))))) ⌝ }
-    ensures bytes { λ _. ⌜ now (report .exit) ≡ page (length (now (report .entry))) (reportOf (resultIn (summary answer)
+    ensures bytes { λ _. ⌜ now (report .exit) ≡ pageOf (holdsMarks (summary answer) (printed (now (regions .entry)) (now (rules .entry))
+        (now (kinds .entry)) (now (colours .entry)) (now (ppms .entry)) (now (barrules .entry)) (now (barppms .entry))))
+        (length (now (report .entry))) (reportOf (resultIn (summary answer)
         (printed (now (regions .entry)) (now (rules .entry)) (now (kinds .entry)) (now (colours .entry)) (now (ppms .entry))
         (now (barrules .entry)) (now (barppms .entry))))) ⌝ }
 {
     let figures = figures_of(answer);
     let number = figures.number;
     let marks = figures.marks;
+    let space = mark_space(regions, rules, kinds, colours, ppms);
+    if (space as u64) < marks {
+        return keep(report, 0);
+    }
     let head = put_summary(report, 0, figures);
     if number != 0 {
         return keep(report, head);
@@ -280,11 +318,17 @@ pub fn write_report(
     keep(report, end)
 }
 
-// The report of a refusal by its number and values, where no column is at hand.
+// The report of a refusal by its number and values, where no column is at hand: its length, 0 where it is longer than the lent bytes or
+// the number is 0.
 pub fn write_refusal(number: u64, place: u64, count: u64, actual: u64, report: &mut [u8]) -> usize
-    ensures length { λ r. ⌜ r ≡ pageLength (length (now (report .entry))) (summaryText (refusal number place count actual)) ⌝ }
-    ensures bytes { λ _. ⌜ now (report .exit) ≡ page (length (now (report .entry))) (summaryText (refusal number place count actual)) ⌝ }
+    ensures length { λ r. ⌜ r ≡ printedLength (isRefusal number) (length (now (report .entry)))
+        (summaryText (refusal number place count actual)) ⌝ }
+    ensures bytes { λ _. ⌜ now (report .exit) ≡ pageOf (isRefusal number) (length (now (report .entry)))
+        (summaryText (refusal number place count actual)) ⌝ }
 {
+    if number == 0 {
+        return keep(report, 0);
+    }
     let end = put_summary(report, 0, refusal_figures(number, place, count, actual));
     keep(report, end)
 }

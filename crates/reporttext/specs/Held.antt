@@ -1,13 +1,16 @@
 -- The result that the lent columns hold beside an answer: the first marks of the mark columns, as many as the answer says, and a state for
 -- each place of the bar columns, of which only the bar is printed. Past a column's end is 0. Assumes nothing.
 use Prim.Native.Nat.{ℕ, zero, suc}
-use mathlib.Core.Bool.{false}
+use mathlib.Core.Bool.{Bool, false}
 use mathlib.Core.List.{List, [], _∷_}
+use lib.Dec.{leb}
 use lib.ListN.{length, getD}
 use Rattle.model.specs.declared.Paint.{Paint}
 use Rattle.model.specs.Run.{Mark, RegionState}
 use Rattle.model.specs.Answer.{Summary, Result}
+use Rattle.model.specs.Job.{markSpace}
 use Rattle.model.specs.Columns.{Columns}
+use Rattle.laws.specs.Demands.{lengthsOf}
 
 abbrev pub paintOf : ℕ → ℕ → ℕ → Paint
 paintOf kind colour ppm = record { kind = kind; colour = colour; ppm = ppm }
@@ -57,3 +60,7 @@ resultIn s c =
       marks = marksIn (c .regions) (c .rules) (c .kinds) (c .colours) (c .ppms) 0 (s .marks);
       states = barsIn (c .barRules) (c .barPpms) 0 (length (c .barRules));
     }
+
+-- whether the mark columns hold all the marks of an answer
+unfoldable pub holdsMarks : Summary → Columns → Bool
+holdsMarks s c = leb (s .marks) (markSpace (lengthsOf c))

@@ -1,7 +1,9 @@
--- `put::put_byte` meets its contract. Assumes nothing.
+-- `put::put_byte` meets its contract: the byte is stored, or it does not fit and all is cleared. Assumes nothing.
 use native.Mathlib.Omega.{arith}
+use mathlib.Core.Path.{refl, _∙_}
 use borrow.Author.Needs.{needs}
-use Rattle.put.proofs.Laws.{laid-past}
+use Rattle.put.proofs.Laws.{laid-fits, laid-over}
+use Rattle.put.proofs.Keeping.{none-kept}
 use Rattle.put.proofs.put_byte.Statement.{statement}
 use Rattle.put.proofs.put_byte.Tie as tie
 
@@ -15,18 +17,18 @@ same-length : tie.Need-same-length
 same-length c = search needs
 
 returns : tie.Need-returns
-returns c = search needs
+returns c = laid-fits (omega arith) refl (omega arith)
 
-add-result-2 : tie.Need-add-result-2
-add-result-2 c = search needs
+clear-from-requires : tie.Need-clear-from-requires
+clear-from-requires c κs = search needs
+
+same-length-2 : tie.Need-same-length-2
+same-length-2 c = search needs
 
 returns-2 : tie.Need-returns-2
-returns-2 c = laid-past _ _ _ _ (omega arith) (omega arith)
-
-returns-3 : tie.Need-returns-3
-returns-3 c = laid-past _ _ _ _ (omega arith) (omega arith)
+returns-2 c = laid-over (omega arith) (c .before .before .clear-from .ensures ∙ none-kept (c .before .before .before .before .before .before .args .text .now)) refl
 
 pub put-byte-spec : {M : Type 1} → statement M
 put-byte-spec =
     tie.close
-    (tie.spec slice-write-text add-result same-length returns add-result-2 returns-2 returns-3)
+    (tie.spec slice-write-text add-result same-length returns clear-from-requires same-length-2 returns-2)

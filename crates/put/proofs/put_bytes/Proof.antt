@@ -1,27 +1,51 @@
--- `put::put_bytes` meets its contract. The loop's invariant: what is left of the piece, laid from here on, gives what the whole piece gives
--- from the start. A byte that is put is the first of what was left. The measure is how many bytes are left. Assumes nothing.
+-- `put::put_bytes` meets its contract: there is no room and all is cleared, or the piece is stored byte by byte. The loop's invariant: with
+-- the bytes that are left, the text holds the piece. The measure is how many bytes are left. Assumes nothing.
 use Prim.Native.Nat.{_-_}
 use native.Mathlib.Omega.{arith}
-use lib.ListN.{length, drop, drop-of-length-le}
+use mathlib.Core.Path.{refl, sym, _∙_}
+use lib.ListN.{length}
 use borrow.Author.Needs.{needs}
-use Rattle.put.proofs.Laws.{LaidLeft, left-begun, left-more, left-done, drop-next}
+use borrow.Author.Tests.{leb-true, leb-false, not-true, not-false}
+use Rattle.put.proofs.Laws.{laid-fits, laid-over}
+use Rattle.put.proofs.Keeping.{none-kept}
+use Rattle.put.proofs.Storing.{Storing, storing-begun, storing-more, storing-done}
 use Rattle.put.proofs.put_bytes.Statement.{statement}
 use Rattle.put.proofs.put_bytes.Tie as tie
 
 abbrev Inv-loop : tie.InvT-loop
-Inv-loop text₀ at piece end₀ i₀ text end i = LaidLeft text₀ at piece text end (drop i piece)
+Inv-loop text₀ at piece i₀ text i = Storing text₀ at piece text i
 
 abbrev μ-loop : tie.MeasureT-loop
-μ-loop text₀ at piece end₀ i₀ text end i = length piece - i
+μ-loop text₀ at piece i₀ text i = length piece - i
+
+has-room-requires : tie.Need-has-room-requires Inv-loop μ-loop
+has-room-requires c κs = search needs
+
+clear-from-requires : tie.Need-clear-from-requires Inv-loop μ-loop
+clear-from-requires c κs = search needs
+
+same-length : tie.Need-same-length Inv-loop μ-loop
+same-length c = search needs
+
+returns : tie.Need-returns Inv-loop μ-loop
+returns c =
+    let clear = c .before .before in
+    let room = clear .before .before .before in
+    let start = room .before .before .before in
+    laid-over (leb-false _ _ (sym (room .has-room .ensures) ∙ not-true _ (clear .before .before .if1 .taken)))
+    (clear .clear-from .ensures ∙ none-kept (start .args .text .now)) refl
 
 loop-holds : tie.Need-loop-holds Inv-loop μ-loop
-loop-holds c = left-begun (omega arith)
+loop-holds c = storing-begun (leb-true _ _ (sym (c .before .has-room .ensures) ∙ not-false _ (c .if1 .left)))
 
-shared-slice-read-put-byte : tie.Need-shared-slice-read-put-byte Inv-loop μ-loop
-shared-slice-read-put-byte c = search needs
+shared-slice-read-text : tie.Need-shared-slice-read-text Inv-loop μ-loop
+shared-slice-read-text c = search needs
 
-put-byte-requires : tie.Need-put-byte-requires Inv-loop μ-loop
-put-byte-requires c κs = search needs
+add-text : tie.Need-add-text Inv-loop μ-loop
+add-text c = omega arith
+
+slice-write-text : tie.Need-slice-write-text Inv-loop μ-loop
+slice-write-text c = omega arith
 
 add-i : tie.Need-add-i Inv-loop μ-loop
 add-i c = search needs
@@ -30,17 +54,18 @@ loop-less : tie.Need-loop-less Inv-loop μ-loop
 loop-less c = search needs
 
 loop-again : tie.Need-loop-again Inv-loop μ-loop
-loop-again c =
-    let put = c .before .before in
-    let turn = put .before .before .before .before in
-    left-more (omega arith) (turn .loop .inv)
-    (drop-next (turn .before .before .before .args .piece .now) (turn .loop .i) (omega arith)) (put .put-byte .ensures)
+loop-again c = storing-more (c .before .before .loop .inv) (c .before .loop-test .taken)
 
-same-length : tie.Need-same-length Inv-loop μ-loop
-same-length c = c .before .loop .inv .long
+add-result : tie.Need-add-result Inv-loop μ-loop
+add-result c = omega arith
 
-returns : tie.Need-returns Inv-loop μ-loop
-returns c = left-done (c .before .loop .inv) (drop-of-length-le _ (c .loop-test .left))
+same-length-2 : tie.Need-same-length-2 Inv-loop μ-loop
+same-length-2 c = c .before .loop .inv .long
+
+returns-2 : tie.Need-returns-2 Inv-loop μ-loop
+returns-2 c =
+    let stored = c .before .loop .inv in
+    laid-fits (stored .room) (storing-done stored (c .loop-test .left)) (omega arith)
 
 pub put-bytes-spec : {M : Type 1} → statement M
 put-bytes-spec =
@@ -48,11 +73,17 @@ put-bytes-spec =
     (tie.spec
     Inv-loop
     μ-loop
+    has-room-requires
+    clear-from-requires
+    same-length
+    returns
     loop-holds
-    shared-slice-read-put-byte
-    put-byte-requires
+    shared-slice-read-text
+    add-text
+    slice-write-text
     add-i
     loop-less
     loop-again
-    same-length
-    returns)
+    add-result
+    same-length-2
+    returns-2)

@@ -1,12 +1,12 @@
 -- `report::put_answer` meets its contract: the lines of the marks, then those of the bars, each below its names. Assumes nothing.
-use Prim.Native.Nat.{_≤_}
+use Prim.Native.Nat.{_<_}
 use native.Mathlib.Omega.{arith}
 use mathlib.Core.List.{append-assoc}
 use lib.ListN.{length}
 use borrow.Author.Needs.{needs}
 use Rattle.grammar.specs.Parts.{bytes}
 use Rattle.put.specs.Laid.{last}
-use Rattle.put.proofs.Laws.{laid-then, laid-as, laid-length}
+use Rattle.put.proofs.Laws.{laid-then, laid-as, laid-length, laid-ready}
 use Rattle.reporttext.specs.Report.{markNames, barNames, marksText, barsText}
 use Rattle.report.proofs.put_answer.Statement.{statement}
 use Rattle.report.proofs.put_answer.Tie as tie
@@ -18,7 +18,10 @@ put-bytes-requires : tie.Need-put-bytes-requires
 put-bytes-requires c κs = search needs
 
 put-mark-lines-requires : tie.Need-put-mark-lines-requires
-put-mark-lines-requires c κs = search needs
+put-mark-lines-requires c κs =
+    let markNames = c .before .before .before in
+    let start = markNames .before .before .before .before .before .before .before .before .before .before .before in
+    laid-ready (markNames .put-bytes .ensures) (omega (arith, start .good .0))
 
 slice-aggregate-put-bytes-2 : tie.Need-slice-aggregate-put-bytes-2
 slice-aggregate-put-bytes-2 c = search needs
@@ -27,7 +30,14 @@ put-bytes-requires-2 : tie.Need-put-bytes-requires-2
 put-bytes-requires-2 c κs = search needs
 
 put-bar-lines-requires : tie.Need-put-bar-lines-requires
-put-bar-lines-requires c κs = search needs
+put-bar-lines-requires c κs =
+    let barNames = c .before .before .before in
+    let marks = barNames .before .before .before .before .before in
+    let markNames = marks .before .before .before .before in
+    let start = markNames .before .before .before .before .before .before .before .before .before .before .before in
+    let room : length (start .args .text .now) < last = omega (arith, start .good .0) in
+    let lines = laid-then room (markNames .put-bytes .ensures) (marks .put-mark-lines .ensures) in
+    laid-ready (laid-then room lines (barNames .put-bytes2 .ensures)) room
 
 returns : tie.Need-returns
 unfolding bytes markNames barNames marksText barsText
@@ -37,7 +47,7 @@ returns c =
     let marks = barNames .before .before .before .before .before in
     let markNames = marks .before .before .before .before in
     let start = markNames .before .before .before .before .before .before .before .before .before .before .before in
-    let room : length (start .args .text .now) ≤ last = omega (arith, start .good .0) in
+    let room : length (start .args .text .now) < last = omega (arith, start .good .0) in
     laid-as (
     laid-then room (
     laid-then room (laid-then room (markNames .put-bytes .ensures) (marks .put-mark-lines .ensures)) (barNames .put-bytes2 .ensures))

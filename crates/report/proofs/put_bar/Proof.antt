@@ -1,18 +1,18 @@
 -- `report::put_bar` meets its contract, for a region without a bar and with one. Assumes nothing.
-use Prim.Native.Nat.{_≤_}
+use Prim.Native.Nat.{_<_}
 use native.Mathlib.Omega.{arith}
 use mathlib.Core.Path.{_∙_}
 use mathlib.Core.List.{append-assoc}
 use lib.ListN.{length}
 use borrow.Author.Needs.{needs}
 use Rattle.put.specs.Laid.{last}
-use Rattle.put.proofs.Laws.{laid-none, laid-then, laid-as}
+use Rattle.put.proofs.Laws.{laid-then, laid-as}
 use Rattle.report.proofs.Lines.{bar-none, bar-some}
 use Rattle.report.proofs.put_bar.Statement.{statement}
 use Rattle.report.proofs.put_bar.Tie as tie
 
 returns : tie.Need-returns
-returns c = laid-as (laid-none _ _ (omega arith)) (bar-none _ _ _ (omega arith))
+returns c = laid-as (c .before .before .pre) (bar-none _ _ _ (omega arith))
 
 put-number-requires : tie.Need-put-number-requires
 put-number-requires c κs = search needs
@@ -38,7 +38,7 @@ returns-2 c =
     let rule = ppm .before .before .before .before in
     let region = rule .before .before .before .before in
     let args = region .before .before .before .before in
-    let room : length (args .args .text .now) ≤ last = omega arith in
+    let room : length (args .args .text .now) < last = omega arith in
     laid-as (laid-then room (laid-then room (region .put-number .ensures) (rule .put-number2 .ensures)) (ppm .put-number3 .ensures))
     (bar-some (args .args .region) (args .args .rule) (args .args .ppm) (omega arith) ∙ simp append-assoc)
 

@@ -2,14 +2,11 @@
 -- all lines give from the start. A line that is put is the first of them. The measure is how many regions are left. Assumes nothing.
 use Prim.Native.Nat.{_-_}
 use native.Mathlib.Omega.{arith}
-use mathlib.Core.Path.{sym}
+use mathlib.Core.Path.{sym, _∙_}
 use lib.ListN.{length}
 use borrow.Author.Needs.{needs}
-use borrow.Author.Needs.{needs}
-use Rattle.put.proofs.Laws.{LaidLeft, left-begun, left-more, left-done, laid-as}
-use Rattle.reporttext.specs.Report.{barLine}
-use Rattle.reporttext.specs.Held.{barIn}
-use Rattle.report.proofs.Lines.{barsFrom, bars-all, bars-next, bars-none}
+use Rattle.put.proofs.Laws.{LaidLeft, left-begun, left-length, left-done, left-stopped, laid-as, laid-length}
+use Rattle.report.proofs.Lines.{barsFrom, bars-all, bars-more, bars-none}
 use Rattle.report.proofs.put_bar_lines.Statement.{statement}
 use Rattle.report.proofs.put_bar_lines.Tie as tie
 
@@ -21,7 +18,7 @@ abbrev μ-loop : tie.MeasureT-loop
 μ-loop text₀ at rules ppms end₀ i₀ text end i = length rules - i
 
 loop-holds : tie.Need-loop-holds Inv-loop μ-loop
-loop-holds c = left-begun (omega arith)
+loop-holds c = left-begun (c .before .before .before .pre)
 
 mul-put-bar : tie.Need-mul-put-bar Inv-loop μ-loop
 mul-put-bar c = search needs
@@ -33,7 +30,25 @@ at-u32-requires : tie.Need-at-u32-requires Inv-loop μ-loop
 at-u32-requires c κs = search needs
 
 put-bar-requires : tie.Need-put-bar-requires Inv-loop μ-loop
-put-bar-requires c κs = search needs
+put-bar-requires c κs = c .before .before .before .before .loop .inv .ready
+
+same-length : tie.Need-same-length Inv-loop μ-loop
+same-length c =
+    let put = c .before .before .before in
+    laid-length (put .put-bar .ensures) ∙ left-length (put .before .before .before .before .before .loop .inv)
+
+returns : tie.Need-returns Inv-loop μ-loop
+returns c =
+    let put = c .before .before .before in
+    let turn = put .before .before .before .before .before in
+    let start = turn .before .before .before .before in
+    let args = start .args in
+    laid-as (
+    left-stopped (omega (arith, start .good .0)) (
+    bars-more (args .rules .now) (args .ppms .now) (length (args .rules .now)) (turn .loop .i) (omega (arith, start .good .0)) (omega arith)
+    (turn .loop .inv) (laid-as (put .put-bar .ensures) (rw (put .before .at-u32 .ensures))))
+    (c .if1 .taken))
+    (sym (bars-all (args .rules .now) (args .ppms .now) (length (args .rules .now))))
 
 add-i : tie.Need-add-i Inv-loop μ-loop
 add-i c = search needs
@@ -43,19 +58,18 @@ loop-less c = search needs
 
 loop-again : tie.Need-loop-again Inv-loop μ-loop
 loop-again c =
-    let put = c .before .before in
+    let put = c .before .before .before in
     let turn = put .before .before .before .before .before in
-    let args = turn .before .before .before .before in
-    left-more {xs = barLine (turn .loop .i) (barIn (args .args .rules .now) (args .args .ppms .now) (turn .loop .i))} (omega arith)
-    (turn .loop .inv)
-    (bars-next (args .args .rules .now) (args .args .ppms .now) (length (args .args .rules .now)) (turn .loop .i) (omega arith))
-    (laid-as (put .put-bar .ensures) (rw (put .before .at-u32 .ensures)))
+    let start = turn .before .before .before .before in
+    let args = start .args in
+    bars-more (args .rules .now) (args .ppms .now) (length (args .rules .now)) (turn .loop .i) (omega (arith, start .good .0)) (omega arith)
+    (turn .loop .inv) (laid-as (put .put-bar .ensures) (rw (put .before .at-u32 .ensures)))
 
-same-length : tie.Need-same-length Inv-loop μ-loop
-same-length c = c .before .loop .inv .long
+same-length-2 : tie.Need-same-length-2 Inv-loop μ-loop
+same-length-2 c = left-length (c .before .loop .inv)
 
-returns : tie.Need-returns Inv-loop μ-loop
-returns c =
+returns-2 : tie.Need-returns-2 Inv-loop μ-loop
+returns-2 c =
     let args = c .before .before .before .before .before in
     laid-as (
     left-done (c .before .loop .inv)
@@ -73,8 +87,10 @@ put-bar-lines-spec =
     shared-slice-read-put-bar
     at-u32-requires
     put-bar-requires
+    same-length
+    returns
     add-i
     loop-less
     loop-again
-    same-length
-    returns)
+    same-length-2
+    returns-2)

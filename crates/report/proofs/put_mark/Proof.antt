@@ -1,5 +1,5 @@
 -- `report::put_mark` meets its contract: region, rule and paint. Assumes nothing.
-use Prim.Native.Nat.{_≤_}
+use Prim.Native.Nat.{_<_}
 use native.Mathlib.Omega.{arith}
 use mathlib.Core.List.{append-assoc}
 use lib.ListN.{length}
@@ -25,7 +25,7 @@ returns c =
     let paint = c .before .before in
     let rule = paint .before .before .before .before in
     let region = rule .before .before .before .before in
-    let room : length (region .before .before .before .args .text .now) ≤ last = omega arith in
+    let room : length (region .before .before .before .args .text .now) < last = omega arith in
     laid-as (laid-then room (laid-then room (region .put-number .ensures) (rule .put-number2 .ensures)) (paint .put-paint .ensures))
     (simp append-assoc)
 

@@ -2,11 +2,10 @@
 -- all lines give from the start. A line that is put is the first of them. The measure is how many marks are left. Assumes nothing.
 use Prim.Native.Nat.{_-_}
 use native.Mathlib.Omega.{arith}
-use mathlib.Core.Path.{sym}
+use mathlib.Core.Path.{sym, _∙_}
 use borrow.Author.Needs.{needs}
-use borrow.Author.Needs.{needs}
-use Rattle.put.proofs.Laws.{LaidLeft, left-begun, left-more, left-done, laid-as}
-use Rattle.report.proofs.Lines.{marksFrom, marks-all, marks-next, marks-none}
+use Rattle.put.proofs.Laws.{LaidLeft, left-begun, left-length, left-done, left-stopped, laid-as, laid-length}
+use Rattle.report.proofs.Lines.{marksFrom, marks-all, marks-more, marks-none}
 use Rattle.report.proofs.put_mark_lines.Statement.{statement}
 use Rattle.report.proofs.put_mark_lines.Tie as tie
 
@@ -18,10 +17,26 @@ abbrev μ-loop : tie.MeasureT-loop
 μ-loop text₀ at n regions rules kinds colours ppms end₀ i₀ text end i = n - i
 
 loop-holds : tie.Need-loop-holds Inv-loop μ-loop
-loop-holds c = left-begun (omega arith)
+loop-holds c = left-begun (c .before .before .before .before .before .before .pre)
 
 put-mark-at-requires : tie.Need-put-mark-at-requires Inv-loop μ-loop
 put-mark-at-requires c κs = search needs
+
+same-length : tie.Need-same-length Inv-loop μ-loop
+same-length c = laid-length (c .before .before .before .put-mark-at .ensures) ∙ left-length (c .before .before .before .before .before .before .loop .inv)
+
+returns : tie.Need-returns Inv-loop μ-loop
+returns c =
+    let put = c .before .before .before in
+    let turn = put .before .before in
+    let start = turn .before .before .before .before .before .before .before .before in
+    let args = start .args in
+    laid-as (
+    left-stopped (omega (arith, start .good .0)) (
+    marks-more (args .regions .now) (args .rules .now) (args .kinds .now) (args .colours .now) (args .ppms .now) (args .n)
+    (turn .before .loop .i) (omega (arith, start .good .0)) (turn .loop-test .taken) (turn .before .loop .inv) (put .put-mark-at .ensures))
+    (c .if1 .taken))
+    (sym (marks-all (args .regions .now) (args .rules .now) (args .kinds .now) (args .colours .now) (args .ppms .now) (args .n)))
 
 add-i : tie.Need-add-i Inv-loop μ-loop
 add-i c = search needs
@@ -31,19 +46,18 @@ loop-less c = search needs
 
 loop-again : tie.Need-loop-again Inv-loop μ-loop
 loop-again c =
-    let put = c .before .before in
+    let put = c .before .before .before in
     let turn = put .before .before in
-    let args = turn .before .before .before .before .before .before .before .before .args in
-    left-more (omega arith) (turn .before .loop .inv)
-    (marks-next (args .regions .now) (args .rules .now) (args .kinds .now) (args .colours .now) (args .ppms .now)
-    (args .n) (turn .before .loop .i) (omega arith))
-    (put .put-mark-at .ensures)
+    let start = turn .before .before .before .before .before .before .before .before in
+    let args = start .args in
+    marks-more (args .regions .now) (args .rules .now) (args .kinds .now) (args .colours .now) (args .ppms .now) (args .n)
+    (turn .before .loop .i) (omega (arith, start .good .0)) (turn .loop-test .taken) (turn .before .loop .inv) (put .put-mark-at .ensures)
 
-same-length : tie.Need-same-length Inv-loop μ-loop
-same-length c = c .before .loop .inv .long
+same-length-2 : tie.Need-same-length-2 Inv-loop μ-loop
+same-length-2 c = left-length (c .before .loop .inv)
 
-returns : tie.Need-returns Inv-loop μ-loop
-returns c =
+returns-2 : tie.Need-returns-2 Inv-loop μ-loop
+returns-2 c =
     let args = c .before .before .before .before .before .before .before .before .args in
     laid-as (
     left-done (c .before .loop .inv)
@@ -61,8 +75,10 @@ put-mark-lines-spec =
     μ-loop
     loop-holds
     put-mark-at-requires
+    same-length
+    returns
     add-i
     loop-less
     loop-again
-    same-length
-    returns)
+    same-length-2
+    returns-2)

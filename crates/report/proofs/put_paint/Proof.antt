@@ -1,5 +1,5 @@
 -- `report::put_paint` meets its contract: kind, colour, ppm and cells. Assumes nothing.
-use Prim.Native.Nat.{_≤_}
+use Prim.Native.Nat.{_<_}
 use native.Mathlib.Omega.{arith}
 use mathlib.Core.List.{append-assoc}
 use lib.ListN.{length}
@@ -42,7 +42,7 @@ returns c =
     let ppm = cells .before .before .before .before .before in
     let colour = ppm .before .before .before .before .before in
     let kind = colour .before .before .before .before .before in
-    let room : length (kind .before .before .before .before .before .args .text .now) ≤ last =
+    let room : length (kind .before .before .before .before .before .args .text .now) < last =
     omega (arith, kind .before .before .before .before .before .good .0) in
     laid-as (
     laid-then room (

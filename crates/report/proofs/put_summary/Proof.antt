@@ -1,5 +1,5 @@
 -- `report::put_summary` meets its contract: the line of names, then the seven numbers. Assumes nothing.
-use Prim.Native.Nat.{_≤_}
+use Prim.Native.Nat.{_<_}
 use native.Mathlib.Omega.{arith}
 use mathlib.Core.List.{append-assoc}
 use lib.ListN.{length}
@@ -49,7 +49,7 @@ returns c =
     let place = count .before .before .before .before in
     let number = place .before .before .before .before in
     let names = number .before .before .before .before in
-    let room : length (names .before .before .before .before .args .text .now) ≤ last =
+    let room : length (names .before .before .before .before .args .text .now) < last =
     omega (arith, names .before .before .before .before .good .0) in
     laid-as (
     laid-then room (

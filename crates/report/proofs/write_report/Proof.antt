@@ -1,5 +1,6 @@
--- `report::write_report` meets its contract: a refusal's two lines, or the whole answer, kept if they fit. Assumes nothing.
-use Prim.Native.Nat.{_≤_}
+-- `report::write_report` meets its contract: nothing where the columns do not hold all marks; else a refusal's two lines, or the whole
+-- answer, kept if they fit. Assumes nothing.
+use Prim.Native.Nat.{_<_}
 use native.Mathlib.Omega.{arith}
 use mathlib.Core.Path.{sym, ap, _∙_}
 use lib.ListN.{length}
@@ -12,40 +13,24 @@ use Rattle.reporttext.specs.Report.{reportOf}
 use Rattle.reporttext.specs.Held.{printed, resultIn}
 use Rattle.reporttext.proofs.Held.{report-refused, report-answered}
 use Rattle.report.specs.Figures.{summaryOf}
+use Rattle.report.proofs.Printing.{printed-page, printed-none, all-held, not-held}
 use Rattle.report.proofs.write_report.Statement.{statement}
 use Rattle.report.proofs.write_report.Tie as tie
-
-figures-of-requires : tie.Need-figures-of-requires
-figures-of-requires c κs = search needs
-
-put-summary-requires : tie.Need-put-summary-requires
-put-summary-requires c κs = search needs
-
-keep-requires : tie.Need-keep-requires
-keep-requires c κs = search needs
 
 same-length : tie.Need-same-length
 same-length c = search needs
 
 returns : tie.Need-returns
-unfolding resultIn
 returns c =
     let kept = c .before .before in
-    let put = kept .before .before .before .before .before in
-    let start = put .before .before .before .before .before .before .before .before .before .before .before in
+    let space = kept .before .before .before in
+    let start = space .before .before .before .before .before .before .before .before .before .before in
     let columns = printed (start .args .regions .now) (start .args .rules .now) (start .args .kinds .now) (start .args .colours .now)
     (start .args .ppms .now) (start .args .barrules .now) (start .args .barppms .now) in
-    let laid = laid-as (put .put-summary .ensures) (
-    ap (λ (s : Summary). reportOf (resultIn s columns)) (sym (put .before .before .figures-of .ensures))
-    ∙ report-refused (resultIn (summaryOf (put .before .before .figures-of .result)) columns) (kept .before .before .if1 .taken)) in
-    let page = kept-page (omega (arith, start .good .1 .1 .1 .1 .1 .1 .1 .1 .0)) laid (kept .keep .ensures .0) (kept .keep .ensures .1) in
-    (page .length, page .bytes)
-
-put-answer-requires : tie.Need-put-answer-requires
-put-answer-requires c κs = search needs
-
-keep-requires-2 : tie.Need-keep-requires-2
-keep-requires-2 c κs = search needs
+    let none = printed-none (start .args .report .now)
+    (not-held columns (space .before .figures-of .ensures) (space .mark-space .ensures) (kept .before .before .if1 .taken))
+    (kept .keep .ensures .0) (kept .keep .ensures .1) in
+    (none .length, none .bytes)
 
 same-length-2 : tie.Need-same-length-2
 same-length-2 c = search needs
@@ -54,28 +39,47 @@ returns-2 : tie.Need-returns-2
 unfolding resultIn
 returns-2 c =
     let kept = c .before .before in
-    let rest = kept .before .before .before .before in
-    let put = rest .before .before .before .before .before in
-    let start = put .before .before .before .before .before .before .before .before .before .before .before in
+    let put = kept .before .before .before .before .before in
+    let holds = put .before .before in
+    let space = holds .before in
+    let figures = space .before .figures-of in
+    let start = space .before .before .before .before .before .before .before .before .before .before in
     let columns = printed (start .args .regions .now) (start .args .rules .now) (start .args .kinds .now) (start .args .colours .now)
     (start .args .ppms .now) (start .args .barrules .now) (start .args .barppms .now) in
-    let room : length (start .args .report .now) ≤ last = omega (arith, start .good .1 .1 .1 .1 .1 .1 .1 .1 .0) in
-    let laid = laid-as (laid-then room (put .put-summary .ensures) (rest .put-answer .ensures)) (
-    ap (λ (s : Summary). reportOf (resultIn s columns)) (sym (put .before .before .figures-of .ensures))
-    ∙ report-answered (resultIn (summaryOf (put .before .before .figures-of .result)) columns) (omega arith)) in
-    let page = kept-page (omega (arith, start .good .1 .1 .1 .1 .1 .1 .1 .1 .0)) laid (kept .keep2 .ensures .0) (kept .keep2 .ensures .1) in
+    let room : length (start .args .report .now) < last = omega (arith, start .good .1 .1 .1 .1 .1 .1 .1 .1 .0) in
+    let laid = laid-as (put .put-summary .ensures) (
+    ap (λ (s : Summary). reportOf (resultIn s columns)) (sym (figures .ensures))
+    ∙ report-refused (resultIn (summaryOf (figures .result)) columns) (kept .before .before .if2 .taken)) in
+    let page = printed-page (all-held columns (figures .ensures) (space .mark-space .ensures) (holds .if1 .left))
+    (kept-page room laid (kept .keep2 .ensures .0) (kept .keep2 .ensures .1)) in
     (page .length, page .bytes)
 
+same-length-3 : tie.Need-same-length-3
+same-length-3 c = search needs
+
+returns-3 : tie.Need-returns-3
+unfolding resultIn
+returns-3 c =
+    let kept = c .before .before in
+    let rest = kept .before .before .before .before in
+    let put = rest .before .before .before .before .before in
+    let holds = put .before .before in
+    let space = holds .before in
+    let figures = space .before .figures-of in
+    let start = space .before .before .before .before .before .before .before .before .before .before in
+    let columns = printed (start .args .regions .now) (start .args .rules .now) (start .args .kinds .now) (start .args .colours .now)
+    (start .args .ppms .now) (start .args .barrules .now) (start .args .barppms .now) in
+    let room : length (start .args .report .now) < last = omega (arith, start .good .1 .1 .1 .1 .1 .1 .1 .1 .0) in
+    let laid = laid-as (laid-then room (put .put-summary .ensures) (rest .put-answer .ensures)) (
+    ap (λ (s : Summary). reportOf (resultIn s columns)) (sym (figures .ensures))
+    ∙ report-answered (resultIn (summaryOf (figures .result)) columns) (rest .before .before .if2 .left)) in
+    let page = printed-page (all-held columns (figures .ensures) (space .mark-space .ensures) (holds .if1 .left))
+    (kept-page room laid (kept .keep3 .ensures .0) (kept .keep3 .ensures .1)) in
+    (page .length, page .bytes)
+
+-- nothing is asked where it calls
 pub write-report-spec : {M : Type 1} → statement M
 write-report-spec =
     tie.close
-    (tie.spec
-    figures-of-requires
-    put-summary-requires
-    keep-requires
-    same-length
-    returns
-    put-answer-requires
-    keep-requires-2
-    same-length-2
-    returns-2)
+    (tie.spec (λ _ _. tt) (λ _ _. tt) (λ _ _. tt) same-length returns (λ _ _. tt) (λ _ _. tt) same-length-2 returns-2 (λ _ _. tt)
+    (λ _ _. tt) same-length-3 returns-3)
