@@ -8,7 +8,7 @@ use mathlib.Core.List.{List}
 use lib.Dec.{ltb, eqb}
 use lib.ListN.{length, take, replicate}
 use lib.Seq.{take-append-seam}
-use borrow.Author.Tests.{le-leb, le-ltb, ltb-true}
+use borrow.Author.Tests.{le-ltb, ltb-true}
 use Rattle.grammar.specs.Gram.{Got, lineOf}
 use Rattle.grammar.specs.Gram.Got.{got, bad}
 use Rattle.model.specs.Job.{Job, markSpace, cellCount, regionCount, refuseIf, spaceShort}
@@ -18,7 +18,8 @@ use Rattle.jobtext.specs.Text.{Head, bodyT, head, body, toJob}
 use Rattle.jobtext.specs.Read.{ReadResult, maxText, over, closed, within, headed, sized, read}
 use Rattle.jobtext.specs.Laid.{laid, space, decided}
 use Rattle.jobtext.proofs.Reading.{read-accepted, text-read, job-text-one, read-too-long}
-use Rattle.put.specs.Laid.{page, pageLength}
+use Rattle.memory.specs.Memory.{page, pageLength}
+use Rattle.memory.proofs.Laws.{text-fits}
 use Rattle.reporttext.proofs.Jobs.{well-formed-few}
 use Rattle.whole.proofs.Longest.{whole-longest}
 use Rattle.claims.specs.WholeJobs.{NothingAskedOfTexts, reportOn, Printed, AlwaysWhole, RatioGiven, ChannelGiven}
@@ -34,8 +35,9 @@ printed l text before after r e = (e .0, e .1)
 
 -- a text that fits
 fits : (n : ℕ) (ts : List ℕ) → length ts ≤ n → (pageLength n ts ≡ length ts) × (take (length ts) (page n ts) ≡ ts)
-unfolding page pageLength
-fits n ts h = rw (le-leb (length ts) n h) (refl, take-append-seam ts (replicate (n - length ts) 0))
+fits n ts h =
+    let all = text-fits n ts h in
+    (all .0, ap (take (length ts)) (all .1) ∙ take-append-seam ts (replicate (n - length ts) 0))
 
 pub always-whole : AlwaysWhole
 always-whole l text before after r enough e =

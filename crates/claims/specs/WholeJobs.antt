@@ -19,7 +19,7 @@ use Rattle.jobtext.specs.Text.{job}
 use Rattle.jobtext.specs.Read.{ReadResult, maxText, read}
 use Rattle.jobtext.specs.Laid.{laid, decided}
 use Rattle.jobtext.proofs.Reading.{Readable}
-use Rattle.put.specs.Laid.{page, pageLength}
+use Rattle.memory.specs.Memory.{page, pageLength}
 use Rattle.reporttext.specs.Report.{reportOf}
 use Rattle.reporttext.specs.Longest.{longest}
 use Rattle.exports.proofs.wavendiru_whole_job.Reads as wholeJob

@@ -5,7 +5,7 @@ ghost use mathlib.Core.Path.{_≡_};
 ghost use lib.ListN.{length};
 ghost use Rattle.model.specs.Job.{result};
 ghost use Rattle.checks.specs.Checked.{cellColumns, jobOf};
-ghost use Rattle.put.specs.Laid.{page, pageLength};
+ghost use Rattle.memory.specs.Memory.{page, pageLength};
 ghost use Rattle.reporttext.specs.Report.{reportOf};
 ghost use Rattle.jobtext.specs.Laid.{space};
 

@@ -2,7 +2,7 @@
 ghost use mathlib.Core.Path.{_≡_};
 ghost use lib.ListN.{length};
 ghost use Rattle.model.specs.Ratio.{ratio, channel};
-ghost use Rattle.put.specs.Laid.{page, pageLength};
+ghost use Rattle.memory.specs.Memory.{page, pageLength};
 ghost use Rattle.reporttext.specs.Report.{reportOf};
 ghost use Rattle.jobtext.specs.Read.{read};
 ghost use Rattle.jobtext.specs.Laid.{decided};

@@ -30,7 +30,8 @@ pub storing-more : {d : List ℕ} {at : ℕ} {ts e : List ℕ} {i : ℕ} → Sto
     → Storing d at ts (set e (at + i) (getD ts i 0)) (i + 1)
 storing-more {d} {at} {ts} {e} {i} s h =
     let n : at + suc i ≡ suc (at + i) = omega arith in
-    let next : sets (set e (at + i) (getD ts i 0)) (at + suc i) (drop (suc i) ts) ≡ sets e (at + i) (drop i ts) = rw (n, drop-cons ts i 0) in
+    let next : sets (set e (at + i) (getD ts i 0)) (at + suc i) (drop (suc i) ts) ≡ sets e (at + i) (drop i ts) =
+    rw (n, drop-cons ts i 0) in
     record {
       bytes = rw add-one (next ∙ s .bytes);
       long = length-set e (at + i) (getD ts i 0) ∙ s .long;

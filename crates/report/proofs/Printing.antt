@@ -9,7 +9,7 @@ use borrow.Author.Tests.{le-leb, lt-leb}
 use Rattle.model.specs.Answer.{Summary}
 use Rattle.model.specs.Job.{markSpace}
 use Rattle.model.specs.Columns.{Columns}
-use Rattle.memory.specs.Memory.{pageOf, page}
+use Rattle.memory.specs.Memory.{pageOf, page, pageLength}
 use Rattle.memory.proofs.Laws.{page-refused}
 use Rattle.put.specs.Laid.{keptLength, keptBytes}
 use Rattle.put.proofs.Keeping.{Page, none-kept, kept-whole}
@@ -31,6 +31,15 @@ pub printed-none : {ok : Bool} (d : List ℕ) {ts f : List ℕ} {r : ℕ} → ok
 printed-none d {ts} {f} {r} e k b =
     let none : r ≡ 0 = k ∙ sym (kept-whole (length d) 0 (omega arith)) in
     record { length = rw e none; bytes = rw e (b ∙ (ap (keptBytes d) none ∙ (none-kept d ∙ sym (page-refused 0 (length d) ts)))) }
+
+-- what is printed after all, under another name of its text
+pub printed-all : {ok : Bool} (n : ℕ) {ts us f : List ℕ} {r : ℕ} → ok ≡ true → ts ≡ us → r ≡ printedLength ok n ts → f ≡ pageOf ok n ts
+    → (r ≡ pageLength n us) × (f ≡ page n us)
+unfolding page
+printed-all n {ts} e same l b = (
+  l ∙ (ap (λ (x : Bool). printedLength x n ts) e ∙ ap (pageLength n) same),
+  b ∙ (ap (λ (x : Bool). pageOf x n ts) e ∙ ap (λ (x : List ℕ). pageOf true n x) same),
+)
 
 -- ---- the marks of an answer
 

@@ -1,7 +1,7 @@
 // A whole job: its text read, decided and printed, with all memory between them its own.
 ghost use mathlib.Core.Path.{_≡_};
 ghost use lib.ListN.{length};
-ghost use Rattle.put.specs.Laid.{page, pageLength};
+ghost use Rattle.memory.specs.Memory.{page, pageLength};
 ghost use Rattle.reporttext.specs.Report.{reportOf};
 ghost use Rattle.jobtext.specs.Read.{read};
 ghost use Rattle.jobtext.specs.Laid.{decided};

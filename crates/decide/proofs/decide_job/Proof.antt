@@ -1,11 +1,11 @@
 -- `decide::decide_job` meets its contract: the call is lent columns of 1,024, and its answer and columns are printed. Assumes nothing.
-use mathlib.Core.Path.{refl, ap, _∙_}
+use mathlib.Core.Path.{refl}
 use denote.Ref.{now}
 use borrow.Author.Needs.{needs}
 use Rattle.checks.specs.Checked.{cellColumns, jobOf}
 use Rattle.jobtext.specs.Laid.{space}
-use Rattle.put.specs.Laid.{page, pageLength}
-use Rattle.decide.proofs.Reports.{report-printed}
+use Rattle.report.proofs.Printing.{printed-all}
+use Rattle.decide.proofs.Reports.{report-printed, answer-held}
 use Rattle.decide.proofs.decide_job.Statement.{statement}
 use Rattle.decide.proofs.decide_job.Tie as tie
 
@@ -25,7 +25,9 @@ returns c =
     (now (a .region-rows)) (now (a .region-cols)) (now (a .pool)) (a .name) (a .rules) (a .start) in
     let same = report-printed j (a .limit) _ (called .resolve-conditional-paints .result) _ refl
     (called .resolve-conditional-paints .ensures .0) (called .resolve-conditional-paints .ensures .1) in
-    (wrote .write-report .ensures .0 ∙ ap (pageLength _) same, wrote .write-report .ensures .1 ∙ ap (page _) same)
+    let held = answer-held j (a .limit) _ (called .resolve-conditional-paints .result) (called .resolve-conditional-paints .ensures .0) _
+    (called .resolve-conditional-paints .ensures .1) in
+    printed-all _ held same (wrote .write-report .ensures .0) (wrote .write-report .ensures .1)
 
 -- nothing is asked where it calls; each column is 1,024 long where it is lent, and after the call
 pub decide-job-spec : {M : Type 1} → statement M

@@ -11,8 +11,9 @@ returns c = room-left (c .before .args .len) (c .before .args .at) (c .before .a
 
 returns-2 : tie.Need-returns-2
 returns-2 c =
-    let h : c .before .args .len < c .before .args .at = omega arith in
-    rw (lt-leb (c .before .args .at) (c .before .args .len) h, lt-leb (c .before .args .at + c .before .args .n) (c .before .args .len) (omega arith))
+    let a = c .before .args in
+    let h : a .len < a .at = omega arith in
+    rw (lt-leb (a .at) (a .len) h, lt-leb (a .at + a .n) (a .len) (omega arith))
 
 pub has-room-spec : {M : Type 1} → statement M
 has-room-spec = tie.close (tie.spec returns returns-2)

@@ -26,7 +26,10 @@ same-length-2 : tie.Need-same-length-2
 same-length-2 c = search needs
 
 returns-2 : tie.Need-returns-2
-returns-2 c = laid-over (omega arith) (c .before .before .clear-from .ensures ∙ none-kept (c .before .before .before .before .before .before .args .text .now)) refl
+returns-2 c =
+    let clear = c .before .before in
+    let start = clear .before .before .before .before in
+    laid-over (omega arith) (clear .clear-from .ensures ∙ none-kept (start .args .text .now)) refl
 
 pub put-byte-spec : {M : Type 1} → statement M
 put-byte-spec =

@@ -23,7 +23,9 @@ put-mark-at-requires : tie.Need-put-mark-at-requires Inv-loop μ-loop
 put-mark-at-requires c κs = search needs
 
 same-length : tie.Need-same-length Inv-loop μ-loop
-same-length c = laid-length (c .before .before .before .put-mark-at .ensures) ∙ left-length (c .before .before .before .before .before .before .loop .inv)
+same-length c =
+    let put = c .before .before .before in
+    laid-length (put .put-mark-at .ensures) ∙ left-length (put .before .before .before .loop .inv)
 
 returns : tie.Need-returns Inv-loop μ-loop
 returns c =

@@ -1,9 +1,12 @@
 -- `whole::whole_job` meets its contract: a refused text is printed at once, and a job is decided from the front of the memory that it
 -- was read into. Assumes nothing.
 use mathlib.Core.Path.{ap, _∙_}
+use mathlib.Core.Bool.{not}
 use borrow.Author.Needs.{needs}
-use Rattle.put.specs.Laid.{page, pageLength}
+use borrow.Author.Tests.{ne-eqb}
+use Rattle.memory.specs.Memory.{page, pageLength}
 use Rattle.reporttext.specs.Report.{reportOf}
+use Rattle.report.proofs.Printing.{printed-all}
 use Rattle.whole.proofs.Reports.{refused-report, job-read, inside, part-long}
 use Rattle.whole.proofs.whole_job.Statement.{statement}
 use Rattle.whole.proofs.whole_job.Tie as tie
@@ -18,7 +21,8 @@ returns c =
     let job = c .before .before .before .before .before .before .before .before .before .before .before .before .before .before .before
     .before .read-job in
     let same = refused-report _ (job .ensures .0) (c .before .before .before .before .if1 .taken) in
-    (wrote .ensures .0 ∙ ap (pageLength _) same, wrote .ensures .1 ∙ ap (page _) same)
+    let told = ap not (ne-eqb _ _ (c .before .before .before .before .if1 .taken)) in
+    printed-all _ told same (wrote .ensures .0) (wrote .ensures .1)
 
 array-share-prefix-rows : tie.Need-array-share-prefix-rows
 array-share-prefix-rows c =

@@ -1,0 +1,90 @@
+-- The definitions computed, on bytes one short, exact and longer: the report of an answer with one mark and one bar, with columns that hold
+-- the mark and with one that does not; the report of a refusal, and of the number 0. Assumes nothing.
+use Prim.Native.Nat.{ℕ}
+use mathlib.Core.Path.{_≡_, refl}
+use mathlib.Core.Bool.{Bool, true, false}
+use mathlib.Core.List.{List, [], _∷_, _++_}
+use lib.ListN.{length, replicate}
+use Rattle.memory.specs.Memory.{allOr, pageOf, pageLength}
+use Rattle.grammar.specs.Parts.{bytes}
+use Rattle.model.specs.declared.Answer.{Answer}
+use Rattle.model.specs.Answer.{summary, refusal}
+use Rattle.model.specs.Job.{markSpace}
+use Rattle.model.specs.Columns.{Columns}
+use Rattle.reporttext.specs.Report.{summaryText, reportOf}
+use Rattle.reporttext.specs.Held.{printed, resultIn, holdsMarks}
+use Rattle.reporttext.proofs.Computing.{lines}
+use Rattle.report.specs.Printed.{printedLength, isRefusal}
+
+-- ---- an answer
+
+abbrev one : Answer
+one = Answer.Answered 5 1 0 0
+
+-- the column of the colours as given
+abbrev columns : List ℕ → Columns
+columns colours = printed (4 ∷ 0 ∷ []) (2 ∷ 0 ∷ []) (1 ∷ 0 ∷ []) colours (0 ∷ []) (0 ∷ 3 ∷ []) (0 ∷ 500_000 ∷ [])
+
+abbrev all : Columns
+all = columns (1_122_867 ∷ [])
+
+abbrev text : List ℕ
+text = reportOf (resultIn (summary one) all)
+
+text-is : text
+    ≡ bytes "number place count actual marks deferred simplified\n0 0 5 0 1 0 0\n"
+    ++ (bytes "region rule kind colour ppm cells\n4 2 1 112233 - -\n" ++ bytes "region barrule ppm\n1 2 500000\n")
+unfolding lines summary
+text-is = refl
+
+holds : holdsMarks (summary one) all ≡ true
+unfolding lines summary holdsMarks markSpace
+holds = refl
+
+report-short : (printedLength true 146 text ≡ 0) × (pageOf true 146 text ≡ replicate 146 0)
+unfolding lines summary allOr pageLength
+report-short = (refl, refl)
+
+report-exact : (printedLength true 147 text ≡ 147) × (pageOf true 147 text ≡ text)
+unfolding lines summary allOr pageLength
+report-exact = (refl, refl)
+
+report-longer : (printedLength true 148 text ≡ 147) × (pageOf true 148 text ≡ text ++ (0 ∷ []))
+unfolding lines summary allOr pageLength
+report-longer = (refl, refl)
+
+-- one mark more than the colours' column holds
+holds-not : holdsMarks (summary one) (columns []) ≡ false
+unfolding lines summary holdsMarks markSpace
+holds-not = refl
+
+report-refused : (printedLength false 148 text ≡ 0) × (pageOf false 148 text ≡ replicate 148 0)
+unfolding allOr
+report-refused = (refl, refl)
+
+-- ---- a refusal
+
+abbrev short : List ℕ
+short = summaryText (refusal 6 0 7 0)
+
+short-is : short ≡ bytes "number place count actual marks deferred simplified\n6 0 7 0 0 0 0\n"
+unfolding lines
+short-is = refl
+
+refusal-short : (printedLength (isRefusal 6) 65 short ≡ 0) × (pageOf (isRefusal 6) 65 short ≡ replicate 65 0)
+unfolding lines allOr pageLength
+refusal-short = (refl, refl)
+
+refusal-exact : (printedLength (isRefusal 6) 66 short ≡ 66) × (pageOf (isRefusal 6) 66 short ≡ short)
+unfolding lines allOr pageLength
+refusal-exact = (refl, refl)
+
+refusal-longer : (printedLength (isRefusal 6) 67 short ≡ 66) × (pageOf (isRefusal 6) 67 short ≡ short ++ (0 ∷ []))
+unfolding lines allOr pageLength
+refusal-longer = (refl, refl)
+
+-- 0 is no refusal
+number-zero : (printedLength (isRefusal 0) 67 (summaryText (refusal 0 0 7 0)) ≡ 0)
+    × (pageOf (isRefusal 0) 67 (summaryText (refusal 0 0 7 0)) ≡ replicate 67 0)
+unfolding allOr
+number-zero = (refl, refl)
