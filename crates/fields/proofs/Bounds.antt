@@ -11,6 +11,7 @@ use Rattle.grammar.specs.Numbers.{decimalP, hexP, sixteens, pairsFrom}
 use Rattle.grammar.proofs.Decimals.{decimal-exact}
 use Rattle.grammar.proofs.Hexadecimals.{hex-exact}
 use Rattle.fields.specs.declared.Field.{Field}
+use Rattle.fields.specs.declared.ReadText.{ReadText}
 use Rattle.fields.specs.Field.{fieldOf, eitherOf, textOf}
 use Rattle.fields.proofs.Pooling.{text-inside}
 
@@ -35,9 +36,10 @@ either-small (got true q) e = rw e (omega arith)
 either-small (got false q) e = rw e (omega arith)
 either-small (bad p) e = rw e (omega arith)
 
-pub text-small : (end : ℕ) (s : List ℕ) (at : ℕ) {f : Field} → f ≡ textOf (pairsFrom end at (drop at s)) → f .value * 2 ≤ length s
-text-small end s at {f} e = go (pairsFrom end at (drop at s)) refl e
+pub text-small : (end : ℕ) (s : List ℕ) (at used size : ℕ) {f : ReadText} → f ≡ textOf (pairsFrom end at (drop at s)) used size
+    → f .length * 2 ≤ length s
+text-small end s at used size {f} e = go (pairsFrom end at (drop at s)) refl e
   where
-    go : (g : Got (List ℕ)) → pairsFrom end at (drop at s) ≡ g → f ≡ textOf g → f .value * 2 ≤ length s
+    go : (g : Got (List ℕ)) → pairsFrom end at (drop at s) ≡ g → f ≡ textOf g used size → f .length * 2 ≤ length s
     go (got bs q) x y = let i = text-inside end s at bs q x in rw y (omega arith)
     go (bad p) x y = rw y (omega arith)

@@ -3,3 +3,4 @@ pub mod Hexadecimals
 pub mod Pooling
 pub mod Room
 pub mod Bounds
+pub mod Examples

@@ -2,12 +2,13 @@
 use Prim.Native.Nat.{ℕ, zero, suc, _+_, _*_, _%_}
 use mathlib.Core.Bool.{Bool, true, false, cond}
 use mathlib.Core.List.{List, [], _∷_}
-use lib.ListN.{length, getD}
-use lib.Seq.{sets}
+use lib.ListN.{length, getD, replicate}
+use Rattle.memory.specs.Memory.{fits, allOrZeros}
 use Rattle.grammar.specs.Gram.{Got}
 use Rattle.grammar.specs.Gram.Got.{got, bad}
 use Rattle.grammar.specs.Numbers.{digitValue}
 use Rattle.fields.specs.declared.Field.{Field}
+use Rattle.fields.specs.declared.ReadText.{ReadText}
 
 -- a number
 abbrev pub fieldOf : Got ℕ → Field
@@ -29,13 +30,15 @@ abbrev pub counted : ℕ → Got (List ℕ) → Field
 counted n (got bs q) = record { ok = true; value = n + length bs; next = q }
 counted n (bad p) = record { ok = false; value = 0; next = p }
 
-abbrev pub textOf : Got (List ℕ) → Field
-textOf g = counted 0 g
+-- a text for a pool of some size, used up to a place
+abbrev pub textOf : Got (List ℕ) → ℕ → ℕ → ReadText
+textOf (got bs q) used size = record { ok = true; fits = fits size used (length bs); length = length bs; next = q }
+textOf (bad p) used size = record { ok = false; fits = false; length = 0; next = p }
 
--- a pool with a text at u, where one was read
+-- a pool with all of a text at u, or zeros from end to end
 abbrev pub pooled : Got (List ℕ) → ℕ → List ℕ → List ℕ
-pooled (got bs q) u pool = sets pool u bs
-pooled (bad p) u pool = pool
+pooled (got bs q) u pool = allOrZeros true pool u bs
+pooled (bad p) u pool = replicate (length pool) 0
 
 -- the bytes of k pairs of digits from a place on
 unfoldable pub pairBytes : ℕ → List ℕ → ℕ → List ℕ

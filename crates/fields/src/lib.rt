@@ -1,19 +1,28 @@
 // Readers of the fields of a job text. Each takes the text and a place, and gives the value and the place after it, or the place
 // at which the text cannot be read on.
 ghost use Prim.Native.Nat.{_+_, _*_, _%_, _≤_};
-ghost use mathlib.Core.Bool.{true, false};
+ghost use mathlib.Core.Bool.{true, false, _&&_};
 ghost use mathlib.Core.List.{[], _∷_};
 ghost use mathlib.Core.Path.{_≡_};
-ghost use lib.ListN.{length, drop};
+ghost use lib.ListN.{length, drop, replicate};
 ghost use lib.Seq.{sets};
+ghost use Rattle.memory.specs.Memory.{fits};
 ghost use Rattle.grammar.specs.Parts.{byteP, wordP, ended, either};
 ghost use Rattle.grammar.specs.Numbers.{decimalFrom, decimalAt, decimalP, digitValue, hexP, hex, pairsFrom};
 ghost use Rattle.fields.specs.Room.{roomy};
-ghost use Rattle.fields.specs.Field.{fieldOf, wordOf, eitherOf, textOf, pooled, pairBytes};
+ghost use Rattle.fields.specs.Field.{fieldOf, wordOf, eitherOf, counted, textOf, pooled, pairBytes};
 
 pub struct Field {
     pub ok: bool,
     pub value: u64,
+    pub next: usize,
+}
+
+// A text: its length, and whether all of it was stored.
+pub struct ReadText {
+    pub ok: bool,
+    pub fits: bool,
+    pub length: u64,
     pub next: usize,
 }
 
@@ -226,7 +235,7 @@ pub fn bits(s: &[u8], at: usize, end: u8) -> Field
 
 // How many bytes are written as pairs of digits up to the byte that ends them.
 fn pairs(s: &[u8], at: usize, end: u8) -> Field
-    ensures { λ r. ⌜ r ≡ textOf (pairsFrom end at (drop at (now (s .entry)))) ⌝ }
+    ensures { λ r. ⌜ r ≡ counted 0 (pairsFrom end at (drop at (now (s .entry)))) ⌝ }
 {
     let mut n: u64 = 0;
     let mut q = at;
@@ -256,18 +265,15 @@ fn pair_byte(hi: u8, lo: u8) -> u8
     v as u8
 }
 
-// Stores the bytes of some pairs from u on, where there is room.
+// Stores the bytes of some pairs from `used` on.
 fn decode(s: &[u8], at: usize, number: u64, pool: &mut [u8], used: usize)
-    requires { ⌜ at + number * 2 ≤ length (now s) ⌝ }
+    requires { ⌜ (at + number * 2 ≤ length (now s)) × (used + number ≤ length (now pool)) ⌝ }
     ensures { λ _. ⌜ now (pool .exit) ≡ sets (now (pool .entry)) used (pairBytes number (now (s .entry)) at) ⌝ }
 {
     let mut k = number;
     let mut q = at;
     let mut u = used;
     while 0 < k {
-        if pool.len() <= u {
-            return;
-        }
         pool[u] = pair_byte(s[q], s[q + 1]);
         u += 1;
         q += 2;
@@ -275,16 +281,49 @@ fn decode(s: &[u8], at: usize, number: u64, pool: &mut [u8], used: usize)
     }
 }
 
-// A text behind its `t`, with the byte that ends it: its length, and its bytes into the pool from `used` on.
-pub fn text(s: &[u8], at: usize, end: u8, pool: &mut [u8], used: usize) -> Field
-    ensures { λ r. ⌜ r ≡ textOf (pairsFrom end at (drop at (now (s .entry)))) ⌝ }
+// Zeros from end to end.
+fn clear(pool: &mut [u8])
+    ensures { λ _. ⌜ now (pool .exit) ≡ replicate (length (now (pool .entry))) 0 ⌝ }
+{
+    let mut i = 0;
+    while i < pool.len() {
+        pool[i] = 0;
+        i += 1;
+    }
+}
+
+// Whether a text was counted and is, from `used` on, within a pool of this size.
+fn has_space(n: Field, size: usize, used: usize) -> bool
+    ensures { λ r. ⌜ r ≡ (n .ok && fits size used (n .value)) ⌝ }
+{
+    if !n.ok {
+        return false;
+    }
+    if size < used {
+        return false;
+    }
+    n.value <= (size - used) as u64
+}
+
+// A text behind its `t`, with the byte that ends it: its length, whether it fits the pool, and its bytes into the pool from `used` on.
+// Where it is malformed or does not fit, the pool becomes 0.
+pub fn text(s: &[u8], at: usize, end: u8, pool: &mut [u8], used: usize) -> ReadText
+    ensures { λ r. ⌜ r ≡ textOf (pairsFrom end at (drop at (now (s .entry)))) used (length (now (pool .entry))) ⌝ }
     ensures { λ _. ⌜ now (pool .exit) ≡ pooled (pairsFrom end at (drop at (now (s .entry)))) used (now (pool .entry)) ⌝ }
 {
     let n = pairs(s, at, end);
-    if n.ok {
+    let fits = has_space(n, pool.len(), used);
+    if fits {
         decode(s, at, n.value, pool, used);
+    } else {
+        clear(pool);
     }
-    n
+    ReadText {
+        ok: n.ok,
+        fits,
+        length: n.value,
+        next: n.next,
+    }
 }
 
 // The bounds that a reader of texts keeps: no further in the pool than in the text, which has at most 65,536 bytes.

@@ -2,8 +2,7 @@
 -- of them from the start gives. A store passes on to the next pair. The measure is the pairs left. Assumes nothing.
 use mathlib.Core.Path.{refl, sym, _∙_}
 use native.Mathlib.Omega.{arith}
-use Rattle.fields.specs.Field.{pairBytes}
-use Rattle.fields.proofs.Pooling.{sets-out, pooling-done, Left, left-next}
+use Rattle.fields.proofs.Pooling.{pooling-done, Left, left-next}
 use borrow.Author.Needs.{needs}
 use Rattle.fields.proofs.decode.Statement.{statement}
 use Rattle.fields.proofs.decode.Tie as tie
@@ -15,23 +14,16 @@ abbrev μ-loop : tie.MeasureT-loop
 μ-loop s at number pool₀ used k₀ q₀ u₀ pool k q u = k
 
 loop-holds : tie.Need-loop-holds Inv-loop μ-loop
-loop-holds c = record { same = refl; inside = omega arith; long = refl }
-
-same-length : tie.Need-same-length Inv-loop μ-loop
-same-length c = c .before .before .loop .inv .long
-
-returns : tie.Need-returns Inv-loop μ-loop
-returns c = sym (sets-out (pairBytes (c .before .before .loop .k) (c .before .before .before .before .before .args .s .now) (c .before
-    .before .loop .q)) (c .before .before .loop .pool) (c .before .before .loop .u) (omega arith)) ∙ c .before .before .loop .inv .same
+loop-holds c = record { same = refl; inside = omega arith; within = omega arith; long = refl }
 
 shared-slice-read-pair-byte : tie.Need-shared-slice-read-pair-byte Inv-loop μ-loop
-shared-slice-read-pair-byte c = omega (arith, c .before .before .before .loop .inv .inside)
+shared-slice-read-pair-byte c = omega (arith, c .before .before .loop .inv .inside)
 
 add-pair-byte : tie.Need-add-pair-byte Inv-loop μ-loop
-add-pair-byte c = omega (arith, c .before .before .before .loop .inv .inside)
+add-pair-byte c = omega (arith, c .before .before .loop .inv .inside)
 
 shared-slice-read-pair-byte-2 : tie.Need-shared-slice-read-pair-byte-2 Inv-loop μ-loop
-shared-slice-read-pair-byte-2 c = omega (arith, c .before .before .before .before .loop .inv .inside)
+shared-slice-read-pair-byte-2 c = omega (arith, c .before .before .before .loop .inv .inside)
 
 pair-byte-requires : tie.Need-pair-byte-requires Inv-loop μ-loop
 pair-byte-requires c κs = search needs
@@ -43,7 +35,7 @@ add-u : tie.Need-add-u Inv-loop μ-loop
 add-u c = search needs
 
 add-q : tie.Need-add-q Inv-loop μ-loop
-add-q c = omega (arith, c .before .before .before .before .before .loop .inv .inside)
+add-q c = omega (arith, c .before .before .before .before .loop .inv .inside)
 
 sub-k : tie.Need-sub-k Inv-loop μ-loop
 sub-k c = search needs
@@ -52,13 +44,13 @@ loop-less : tie.Need-loop-less Inv-loop μ-loop
 loop-less c = omega arith
 
 loop-again : tie.Need-loop-again Inv-loop μ-loop
-loop-again c = left-next (c .before .before .before .before .before .loop .inv) (omega arith) (c .pair-byte .ensures)
+loop-again c = left-next (c .before .before .before .before .loop .inv) (omega arith) (c .pair-byte .ensures)
 
-same-length-2 : tie.Need-same-length-2 Inv-loop μ-loop
-same-length-2 c = c .before .loop .inv .long
+same-length : tie.Need-same-length Inv-loop μ-loop
+same-length c = c .before .loop .inv .long
 
-returns-2 : tie.Need-returns-2 Inv-loop μ-loop
-returns-2 c = sym (pooling-done _ _ _ _ _ (omega arith)) ∙ c .before .loop .inv .same
+returns : tie.Need-returns Inv-loop μ-loop
+returns c = sym (pooling-done _ _ _ _ _ (omega arith)) ∙ c .before .loop .inv .same
 
 pub decode-spec : {M : Type 1} → statement M
 decode-spec =
@@ -67,8 +59,6 @@ decode-spec =
     Inv-loop
     μ-loop
     loop-holds
-    same-length
-    returns
     shared-slice-read-pair-byte
     add-pair-byte
     shared-slice-read-pair-byte-2
@@ -79,5 +69,5 @@ decode-spec =
     sub-k
     loop-less
     loop-again
-    same-length-2
-    returns-2)
+    same-length
+    returns)

@@ -5,7 +5,7 @@ use native.Mathlib.Omega.{arith}
 use lib.Ieee.{ofBits}
 use lib.ListN.{length, length-set}
 use Rattle.model.specs.Ratio.{zeroF}
-use Rattle.lent.proofs.Filling.{Filled, filled-begun, filled-long, filled-more, filled-done}
+use Rattle.memory.proofs.Filling.{Filled, filled-begun, filled-long, filled-more, filled-done}
 use Rattle.lent.proofs.clear_f64.Statement.{statement}
 use Rattle.lent.proofs.clear_f64.Tie as tie
 
