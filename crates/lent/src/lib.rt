@@ -1,6 +1,6 @@
-// Total reads and writes of lent columns: past the end a read gives 0 and a write does nothing.
+// Total reads of lent columns, which past the end give 0, and zeros from end to end.
 ghost use mathlib.Core.Path.{_≡_};
-ghost use lib.ListN.{length, getD, set, replicate};
+ghost use lib.ListN.{length, getD, replicate};
 ghost use Rattle.model.specs.Ratio.{zeroF};
 
 pub fn at_u8(s: &[u8], i: usize) -> u8
@@ -25,38 +25,6 @@ pub fn at_u64(s: &[u64], i: usize) -> u64
     ensures { λ r. ⌜ r ≡ getD (now (s .entry)) i 0 ⌝ }
 {
     if i < s.len() { s[i] } else { 0 }
-}
-
-pub fn put_u8(s: &mut [u8], i: usize, v: u8)
-    ensures { λ _. ⌜ now (s .exit) ≡ set (now (s .entry)) i v ⌝ }
-{
-    if i < s.len() {
-        s[i] = v;
-    }
-}
-
-pub fn put_u16(s: &mut [u16], i: usize, v: u16)
-    ensures { λ _. ⌜ now (s .exit) ≡ set (now (s .entry)) i v ⌝ }
-{
-    if i < s.len() {
-        s[i] = v;
-    }
-}
-
-pub fn put_u32(s: &mut [u32], i: usize, v: u32)
-    ensures { λ _. ⌜ now (s .exit) ≡ set (now (s .entry)) i v ⌝ }
-{
-    if i < s.len() {
-        s[i] = v;
-    }
-}
-
-pub fn put_u64(s: &mut [u64], i: usize, v: u64)
-    ensures { λ _. ⌜ now (s .exit) ≡ set (now (s .entry)) i v ⌝ }
-{
-    if i < s.len() {
-        s[i] = v;
-    }
 }
 
 // ---- zeros from end to end
