@@ -91,7 +91,12 @@ module _ (end n : ℕ) (s : List ℕ) (q : ℕ) where
   unfolding pairsFrom
   pairs-none h = rw (drop-of-length-le s h)
 
-  pub pairs-ended : q < length s → getD s q 0 ≡ end → counted n (pairsFrom end q (drop q s)) ≡ record { ok = true; value = n; next = q + 1 }
+  pub pairs-ended : q < length s → getD s q 0 ≡ end → counted n (pairsFrom end q (drop q s)) ≡ record {
+    ok = true;
+    value = n;
+    next = q +
+        1;
+  }
   unfolding pairsFrom
   pairs-ended h e = rw (here s q h) (go (drop (q + 1) s))
     where

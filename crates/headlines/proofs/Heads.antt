@@ -1,15 +1,16 @@
 -- The grammar of the first two lines, part by part, and the answers of their readers. Assumes nothing.
-use Prim.Native.Nat.{ℕ, _+_}
+use Prim.Native.Nat.{ℕ}
 use mathlib.Core.Path.{_≡_, refl, sym, ap, _∙_}
 use mathlib.Core.Bool.{true, false, not}
 use mathlib.Core.List.{List}
-use native.Mathlib.Omega.{arith}
-use lib.ListN.{length, drop}
+use lib.ListN.{length, drop, replicate, length-replicate}
+use Rattle.memory.specs.Memory.{allOr}
 use Rattle.grammar.specs.Gram.{Got, Gram}
 use Rattle.grammar.specs.Gram.Got.{got, bad}
 use Rattle.grammar.specs.Parts.{then, bytes, byteP, wordP, both}
 use Rattle.grammar.specs.Numbers.{decimalP, pairsFrom}
 use Rattle.fields.specs.declared.Field.{Field}
+use Rattle.fields.specs.declared.ReadText.{ReadText}
 use Rattle.fields.specs.Field.{fieldOf, wordOf, textOf, pooled}
 use Rattle.fields.proofs.Laws.{clash, field-read, field-none, word-read, word-none, word-byte}
 use Rattle.jobtext.specs.Fields.{count, textField}
@@ -151,23 +152,24 @@ abbrev names : List ℕ
 names = bytes "limit start cells regions rules name\n"
 
 abbrev noHead : ℕ → ReadHead
-noHead p = record { ok = false; limit = 0; start = 0; cells = 0; regions = 0; rules = 0; name = 0; next = p }
+noHead p = record { ok = false; fits = false; limit = 0; start = 0; cells = 0; regions = 0; rules = 0; name = 0; next = p }
 
-module _ (s : List ℕ) (at : ℕ) (pool : List ℕ) where
+-- `clean` is the pool after it was cleared
+module _ (s : List ℕ) (at : ℕ) (pool : List ℕ) {clean : List ℕ} (cleared : clean ≡ replicate (length pool) 0) where
   -- what is said of the answer r and of the pool at the end
   abbrev Says : Got Head → ReadHead → List ℕ → Type 0
-  Says g r after = (r ≡ headOf g) × (after ≡ headPooled g pool)
+  Says g r after = (r ≡ headOf g (length pool)) × (after ≡ headPooled g (length pool))
 
-  refused : (p : ℕ) {r : ReadHead} → head .parse s at ≡ bad p → r ≡ noHead p → Says (head .parse s at) r pool
-  refused p e y = rw e (y, refl)
+  refused : (p : ℕ) {r : ReadHead} → head .parse s at ≡ bad p → r ≡ noHead p → Says (head .parse s at) r clean
+  refused p e y = rw e (y, cleared)
 
   module _ {w : Field} (ew : w ≡ wordOf (wordP names s at)) where
-    pub no-names : {r : ReadHead} → not (w .ok) ≡ true → r ≡ noHead (w .next) → Says (head .parse s at) r pool
+    pub no-names : {r : ReadHead} → not (w .ok) ≡ true → r ≡ noHead (w .next) → Says (head .parse s at) r clean
     unfolding head
     no-names x y = refused (w .next) (rw (word-none (wordP names s at) ew x)) y
 
     module _ (xw : not (w .ok) ≡ false) {k : Counts} (ek : k ≡ countsOf (counts .parse s (w .next))) where
-      pub no-numbers : {r : ReadHead} → not (k .ok) ≡ true → r ≡ noHead (k .next) → Says (head .parse s at) r pool
+      pub no-numbers : {r : ReadHead} → not (k .ok) ≡ true → r ≡ noHead (k .next) → Says (head .parse s at) r clean
       unfolding head
       no-numbers x y =
           refused (k .next)
@@ -178,7 +180,7 @@ module _ (s : List ℕ) (at : ℕ) (pool : List ℕ) where
           )) y
 
       module _ (xk : not (k .ok) ≡ false) {m : Field} (em : m ≡ wordOf (byteP 116 s (k .next))) where
-        pub no-mark : {r : ReadHead} → not (m .ok) ≡ true → r ≡ noHead (m .next) → Says (head .parse s at) r pool
+        pub no-mark : {r : ReadHead} → not (m .ok) ≡ true → r ≡ noHead (m .next) → Says (head .parse s at) r clean
         unfolding head textField bytes
         no-mark x y =
             refused (m .next)
@@ -189,7 +191,8 @@ module _ (s : List ℕ) (at : ℕ) (pool : List ℕ) where
               word-byte 116 s (k .next) ∙ word-none (byteP 116 s (k .next)) em x,
             )) y
 
-        module _ (xm : not (m .ok) ≡ false) {f : Field} (ef : f ≡ textOf (pairsFrom 10 (m .next) (drop (m .next) s))) where
+        module _ (xm : not (m .ok) ≡ false) {f : ReadText}
+            (ef : f ≡ textOf (pairsFrom 10 (m .next) (drop (m .next) s)) 0 (length clean)) where
           -- what is left is the name
           last : (g : Got (List ℕ)) → pairsFrom 10 (m .next) (drop (m .next) s) ≡ g
               → head .parse s at ≡ then g (λ n q. got (toHead (named (told k) n)) q)
@@ -208,34 +211,38 @@ module _ (s : List ℕ) (at : ℕ) (pool : List ℕ) where
               go (got n q) = refl
               go (bad p) = refl
 
-          -- a name that is not read goes nowhere
-          pub no-name : {r : ReadHead} {after : List ℕ} (u : ℕ) → after ≡ pooled (pairsFrom 10 (m .next) (drop (m .next) s)) u pool
+          long : length clean ≡ length pool
+          long = ap length cleared ∙ length-replicate (length pool) 0
+
+          pub no-name : {r : ReadHead} {after : List ℕ} → after ≡ pooled (pairsFrom 10 (m .next) (drop (m .next) s)) 0 clean
               → not (f .ok) ≡ true → r ≡ noHead (f .next) → Says (head .parse s at) r after
-          no-name {r} {after} u ep x y = go (pairsFrom 10 (m .next) (drop (m .next) s)) refl ef ep
+          no-name {r} {after} ep x y = go (pairsFrom 10 (m .next) (drop (m .next) s)) refl ef ep
             where
-              go : (g : Got (List ℕ)) → pairsFrom 10 (m .next) (drop (m .next) s) ≡ g → f ≡ textOf g → after ≡ pooled g u pool
-                  → Says (head .parse s at) r after
-              go (got n q) e d p = clash (not (f .ok)) false x refl (ap (λ (z : Field). not (z .ok)) d)
-              go (bad q) e d p = rw (last (bad q) e) (y ∙ rw d, p)
+              go : (g : Got (List ℕ)) → pairsFrom 10 (m .next) (drop (m .next) s) ≡ g → f ≡ textOf g 0 (length clean)
+                  → after ≡ pooled g 0 clean → Says (head .parse s at) r after
+              go (got n q) e d p = clash (not (f .ok)) false x refl (ap (λ (z : ReadText). not (z .ok)) d)
+              go (bad q) e d p = rw (last (bad q) e) (y ∙ rw d, p ∙ ap (λ (n : ℕ). replicate n 0) long)
 
           abbrev read : ReadHead
           read =
               record {
                 ok = true;
+                fits = f .fits;
                 limit = k .limit;
                 start = k .start;
                 cells = k .cells;
                 regions = k .regions;
                 rules = k .rules;
-                name = f .value;
+                name = f .length;
                 next = f .next;
               }
 
-          pub head-answer : {after : List ℕ} → after ≡ pooled (pairsFrom 10 (m .next) (drop (m .next) s)) 0 pool → not (f .ok) ≡ false
+          pub head-answer : {after : List ℕ} → after ≡ pooled (pairsFrom 10 (m .next) (drop (m .next) s)) 0 clean → not (f .ok) ≡ false
               → Says (head .parse s at) read after
           head-answer {after} ep x = go (pairsFrom 10 (m .next) (drop (m .next) s)) refl ef ep
             where
-              go : (g : Got (List ℕ)) → pairsFrom 10 (m .next) (drop (m .next) s) ≡ g → f ≡ textOf g → after ≡ pooled g 0 pool
-                  → Says (head .parse s at) read after
-              go (got n q) e d p = let z : 0 + length n ≡ length n = omega arith in rw (last (got n q) e) (rw (d, z), p)
-              go (bad q) e d p = clash true (not (f .ok)) refl x (sym (ap (λ (z : Field). not (z .ok)) d))
+              go : (g : Got (List ℕ)) → pairsFrom 10 (m .next) (drop (m .next) s) ≡ g → f ≡ textOf g 0 (length clean)
+                  → after ≡ pooled g 0 clean → Says (head .parse s at) read after
+              go (got n q) e d p =
+                  rw (last (got n q) e) (rw (d, long), p ∙ ap (λ (l : List ℕ). allOr 0 true l 0 n) cleared)
+              go (bad q) e d p = clash true (not (f .ok)) refl x (sym (ap (λ (z : ReadText). not (z .ok)) d))

@@ -3,8 +3,8 @@
 use Prim.Native.Nat.{ℕ}
 use mathlib.Core.Bool.{true, false}
 use mathlib.Core.List.{List}
-use lib.ListN.{length}
-use lib.Seq.{sets}
+use lib.ListN.{length, replicate}
+use Rattle.memory.specs.Memory.{fits, pageOf}
 use Rattle.grammar.specs.Gram.{Got, Gram}
 use Rattle.grammar.specs.Gram.Got.{got, bad}
 use Rattle.grammar.specs.Parts.{both}
@@ -33,11 +33,12 @@ countsOf (got x q) =
     }
 countsOf (bad p) = record { ok = false; limit = 0; start = 0; cells = 0; regions = 0; rules = 0; next = p }
 
--- the name is told by its length: its bytes go to the front of the pool
-abbrev pub headOf : Got Head → ReadHead
-headOf (got h q) =
+-- the name is told by its length: its bytes go to a pool of some size
+abbrev pub headOf : Got Head → ℕ → ReadHead
+headOf (got h q) size =
     record {
       ok = true;
+      fits = fits size 0 (length (h .name));
       limit = h .limit;
       start = h .start;
       cells = h .cells;
@@ -46,8 +47,10 @@ headOf (got h q) =
       name = length (h .name);
       next = q;
     }
-headOf (bad p) = record { ok = false; limit = 0; start = 0; cells = 0; regions = 0; rules = 0; name = 0; next = p }
+headOf (bad p) size =
+    record { ok = false; fits = false; limit = 0; start = 0; cells = 0; regions = 0; rules = 0; name = 0; next = p }
 
-abbrev pub headPooled : Got Head → List ℕ → List ℕ
-headPooled (got h q) pool = sets pool 0 (h .name)
-headPooled (bad p) pool = pool
+-- the pool holds the name alone, or zeros from end to end
+abbrev pub headPooled : Got Head → ℕ → List ℕ
+headPooled (got h q) size = pageOf true size (h .name)
+headPooled (bad p) size = replicate size 0

@@ -2,23 +2,25 @@
 use fields::decimal;
 ghost use mathlib.Core.Bool.{false};
 ghost use mathlib.Core.Path.{_≡_};
+ghost use lib.ListN.{length};
 ghost use Rattle.jobtext.specs.Text.{head};
 ghost use Rattle.headlines.specs.Heads.{counts, countsOf, headOf, headPooled};
 
-pub struct Counts {
-    pub ok: bool,
-    pub limit: u64,
-    pub start: u64,
-    pub cells: u64,
-    pub regions: u64,
-    pub rules: u64,
-    pub next: usize,
+struct Counts {
+    ok: bool,
+    limit: u64,
+    start: u64,
+    cells: u64,
+    regions: u64,
+    rules: u64,
+    next: usize,
 }
 
-// What the first two lines say, `name` being the length of the sheet's name, and the place after them; or the place at which they
-// cannot be read on.
+// What the first two lines say, `name` being the length of the sheet's name, whether the name fits the pool, and the place after
+// them; or the place at which they cannot be read on.
 pub struct ReadHead {
     pub ok: bool,
+    pub fits: bool,
     pub limit: u64,
     pub start: u64,
     pub cells: u64,
@@ -78,10 +80,22 @@ fn read_counts(s: &[u8], at: usize) -> Counts
 }
 
 fn no_head(next: usize) -> ReadHead
-    ensures { λ r. ⌜ r ≡ record { ok = false; limit = 0; start = 0; cells = 0; regions = 0; rules = 0; name = 0; next = next } ⌝ }
+    ensures { λ r. ⌜ r ≡ record {
+      ok = false;
+      fits = false;
+      limit = 0;
+      start = 0;
+      cells = 0;
+      regions = 0;
+      rules = 0;
+      name = 0;
+      next =
+          next;
+    } ⌝ }
 {
     ReadHead {
         ok: false,
+        fits: false,
         limit: 0,
         start: 0,
         cells: 0,
@@ -92,11 +106,12 @@ fn no_head(next: usize) -> ReadHead
     }
 }
 
-// The first two lines, with the sheet's name into the front of the pool.
+// The first two lines, with the sheet's name alone in the pool. Where a line is malformed or the name does not fit, the pool becomes 0.
 pub fn read_head(s: &[u8], pool: &mut [u8]) -> ReadHead
-    ensures { λ r. ⌜ r ≡ headOf (head .parse (now (s .entry)) 0) ⌝ }
-    ensures { λ _. ⌜ now (pool .exit) ≡ headPooled (head .parse (now (s .entry)) 0) (now (pool .entry)) ⌝ }
+    ensures { λ r. ⌜ r ≡ headOf (head .parse (now (s .entry)) 0) (length (now (pool .entry))) ⌝ }
+    ensures { λ _. ⌜ now (pool .exit) ≡ headPooled (head .parse (now (s .entry)) 0) (length (now (pool .entry))) ⌝ }
 {
+    lent::clear_u8(pool);
     let names = fields::word(s, 0, b"limit start cells regions rules name\n");
     if !names.ok {
         return no_head(names.next);
@@ -115,12 +130,13 @@ pub fn read_head(s: &[u8], pool: &mut [u8]) -> ReadHead
     }
     ReadHead {
         ok: true,
+        fits: name.fits,
         limit: counts.limit,
         start: counts.start,
         cells: counts.cells,
         regions: counts.regions,
         rules: counts.rules,
-        name: name.value,
+        name: name.length,
         next: name.next,
     }
 }

@@ -1,15 +1,18 @@
--- What the lines of regions leave in their two columns: the regions from index 0 on, or zeros from end to end where a line is malformed.
--- Assumes nothing.
+-- What the lines of regions leave in their two columns: the regions alone, or zeros from end to end where a line is malformed or the
+-- regions do not fit both columns. Assumes nothing.
 use Prim.Native.Nat.{ℕ}
-use mathlib.Core.Bool.{true, false}
+use mathlib.Core.Bool.{Bool, true, false, _&&_}
 use mathlib.Core.List.{List, map}
 use mathlib.Core.Path.{_≡_}
+use lib.Dec.{leb}
 use lib.ListN.{length, replicate}
 use lib.Seq.{sets}
+use Rattle.memory.specs.Memory.{pageOf}
 use Rattle.model.specs.declared.CellCoordinate.{CellCoordinate}
 use Rattle.grammar.specs.Gram.{Got}
 use Rattle.grammar.specs.Gram.Got.{got, bad}
 use Rattle.regionlines.specs.declared.ReadRegion.{ReadRegion}
+use Rattle.regionlines.specs.declared.LinesRead.{LinesRead}
 use Rattle.regionlines.specs.declared.RegionSection.{RegionSection}
 
 abbrev pub rowsOf : List CellCoordinate → List ℕ
@@ -23,22 +26,26 @@ abbrev pub IsRegion : Got CellCoordinate → ReadRegion → Type 0
 IsRegion (got c q) r = r ≡ record { ok = true; row = c .row; col = c .col; next = q }
 IsRegion (bad p) r = (r .ok ≡ false) × (r .next ≡ p)
 
--- lines that are stored from index i on, over columns that held rows and cols
-abbrev pub AreRegions : ℕ → Got (List CellCoordinate) → List ℕ → List ℕ → RegionSection → List ℕ → List ℕ → Type 0
+-- lines that are stored from index i on, where there is room, over columns that held rows and cols
+abbrev pub AreRegions : ℕ → Got (List CellCoordinate) → List ℕ → List ℕ → LinesRead → List ℕ → List ℕ → Type 0
 AreRegions i (got rs q) rows cols r rows′ cols′ =
     (r ≡ record { ok = true; next = q }) × (rows′ ≡ sets rows i (rowsOf rs)) × (cols′ ≡ sets cols i (colsOf rs))
 AreRegions i (bad p) rows cols r rows′ cols′ = (r .ok ≡ false) × (r .next ≡ p)
 
 -- ---- the whole section
 
-abbrev pub sectionOf : Got (List CellCoordinate) → RegionSection
-sectionOf (got rs q) = record { ok = true; next = q }
-sectionOf (bad p) = record { ok = false; next = p }
+-- whether n regions are within both columns
+abbrev pub held : ℕ → List ℕ → List ℕ → Bool
+held n rows cols = leb n (length rows) && leb n (length cols)
 
-abbrev pub rowsAfter : Got (List CellCoordinate) → List ℕ → List ℕ
-rowsAfter (got rs q) rows = sets rows 0 (rowsOf rs)
-rowsAfter (bad p) rows = replicate (length rows) 0
+abbrev pub sectionOf : Got (List CellCoordinate) → List ℕ → List ℕ → RegionSection
+sectionOf (got rs q) rows cols = record { ok = true; fits = held (length rs) rows cols; next = q }
+sectionOf (bad p) rows cols = record { ok = false; fits = false; next = p }
 
-abbrev pub colsAfter : Got (List CellCoordinate) → List ℕ → List ℕ
-colsAfter (got rs q) cols = sets cols 0 (colsOf rs)
-colsAfter (bad p) cols = replicate (length cols) 0
+abbrev pub rowsAfter : Got (List CellCoordinate) → List ℕ → List ℕ → List ℕ
+rowsAfter (got rs q) rows cols = pageOf (held (length rs) rows cols) (length rows) (rowsOf rs)
+rowsAfter (bad p) rows cols = replicate (length rows) 0
+
+abbrev pub colsAfter : Got (List CellCoordinate) → List ℕ → List ℕ → List ℕ
+colsAfter (got rs q) rows cols = pageOf (held (length rs) rows cols) (length cols) (colsOf rs)
+colsAfter (bad p) rows cols = replicate (length cols) 0

@@ -13,7 +13,8 @@ has-space-requires c κs = search needs
 
 decode-requires : tie.Need-decode-requires
 decode-requires c κs =
-    let fit = space-counted (c .before .before .before .pairs .result) _ _ (sym (c .before .before .has-space .ensures) ∙ c .before .if1 .taken) in
+    let fit = space-counted (c .before .before .before .pairs .result) _ _ (sym (c .before .before .has-space .ensures) ∙ c .before .if1
+    .taken) in
     (text-room _ _ _ (c .before .before .before .pairs .ensures) (fit .0), fit .1)
 
 clear-requires : tie.Need-clear-requires

@@ -64,7 +64,8 @@ found-requires c κs = search needs
 returns-3 : tie.Need-returns-3 Inv-loop μ-loop
 returns-3 c =
     let l = c .before .before in
-    c .found .ensures ∙ ap wordOf (sym (word-done (l .before .before .before .args .w .now) _ (l .loop .i) _ (omega arith)) ∙ l .loop .inv)
+    c .found .ensures ∙ ap wordOf (sym (word-done (l .before .before .before .args .w .now) _ (l .loop .i) _ (omega arith)) ∙ l .loop
+    .inv)
 
 pub word-spec : {M : Type 1} → statement M
 word-spec =
