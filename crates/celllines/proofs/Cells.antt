@@ -18,14 +18,14 @@ use Rattle.jobtext.specs.Text.{cellLine}
 use Rattle.jobtext.proofs.Fields.{row-exact, col-exact, wraps-exact}
 use Rattle.celllines.specs.declared.ReadValue.{ReadValue}
 use Rattle.celllines.specs.declared.ReadCell.{ReadCell}
-use Rattle.celllines.specs.Lines.{IsValue, valuePooled, IsCell, cellPooled}
+use Rattle.celllines.specs.Lines.{IsValue, ValueStored, IsCell, CellStored}
 
 module _ (s : List ℕ) (at used : ℕ) (pool : List ℕ) where
   abbrev Says : Got CellLine → ReadCell → List ℕ → Type 0
-  Says g r after = IsCell g used r × (after ≡ cellPooled g used pool)
+  Says g r after = IsCell g used r × CellStored g used pool after
 
   refused : (p : ℕ) (r : ReadCell) → cellLine .parse s at ≡ bad p → (r .ok ≡ false) × (r .next ≡ p) → Says (cellLine .parse s at) r pool
-  refused p r e x = rw e (x, refl)
+  refused p r e x = rw e (x, tt)
 
   module _ {a : Field} (ea : a ≡ fieldOf (decimalP 4_294_967_295 32 s at)) where
     pub no-row : (r : ReadCell) → not (a .ok) ≡ true → (r .ok ≡ false) × (r .next ≡ a .next) → Says (cellLine .parse s at) r pool
@@ -59,8 +59,8 @@ module _ (s : List ℕ) (at used : ℕ) (pool : List ℕ) where
               (room-on (row-exact 32 (omega arith)) (a .value) (a .next) r (field-read (decimalP 4_294_967_295 32 s at) ea xa))
               (field-read (decimalP 65_535 32 s (a .next)) eb xb)) (field-read (decimalP 255 32 s (b .next)) ew xw)
 
-          pub cell-answer : (v : ReadValue) {after : List ℕ} → IsValue (value .parse s (w .next)) used v
-              → after ≡ valuePooled (value .parse s (w .next)) used pool
+          pub cell-answer : (v : ReadValue) (after : List ℕ) → IsValue (value .parse s (w .next)) used v
+              → ValueStored (value .parse s (w .next)) used pool after
               → Says (cellLine .parse s at)
               (record {
                 ok = v .ok;
@@ -75,9 +75,9 @@ module _ (s : List ℕ) (at used : ℕ) (pool : List ℕ) where
                 used = v .used;
               }) after
           unfolding cellLine
-          cell-answer v {after} i p = go (value .parse s (w .next)) refl i p
+          cell-answer v after i p = go (value .parse s (w .next)) refl i p
             where
-              go : (g : Got Value) → value .parse s (w .next) ≡ g → IsValue g used v → after ≡ valuePooled g used pool
+              go : (g : Got Value) → value .parse s (w .next) ≡ g → IsValue g used v → ValueStored g used pool after
                   → Says (cellLine .parse s at)
                   (record {
                     ok = v .ok;

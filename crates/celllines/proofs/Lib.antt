@@ -2,3 +2,4 @@ pub mod Values
 pub mod Cells
 pub mod Sections
 pub mod Whole
+pub mod Examples

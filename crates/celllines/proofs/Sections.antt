@@ -3,16 +3,18 @@
 use Prim.Native.Nat.{ℕ, suc, _+_, _-_, _≤_, _<_}
 use mathlib.Core.Path.{_≡_, refl, sym, ap, _∙_, subst}
 use mathlib.Core.Bool.{true, false, not}
-use mathlib.Core.List.{List, [], _∷_, _++_}
+use mathlib.Core.List.{List, _∷_, _++_}
 use native.Mathlib.Omega.{arith}
 use lib.ListN.{length, set, length-set, length-append}
 use lib.Seq.{sets, length-sets}
+use Rattle.memory.proofs.Laws.{sets-append}
 use Rattle.model.specs.Sheet.{CellColumns}
 use Rattle.grammar.specs.Gram.{Got}
 use Rattle.grammar.specs.Gram.Got.{got, bad}
 use Rattle.grammar.specs.Parts.{then, timesP}
 use Rattle.grammar.proofs.Times.{times-next}
 use Rattle.fields.specs.Room.{Room}
+use Rattle.fields.proofs.Laws.{clash}
 use Rattle.fields.proofs.Room.{room-past}
 use Rattle.jobtext.specs.Written.{CellLine}
 use Rattle.jobtext.specs.Text.{cellLine}
@@ -20,18 +22,13 @@ use Rattle.jobtext.specs.Laid.{valueBytes, cellBytes, kindOf, numOf, atOf, lenO
 use Rattle.jobtext.proofs.Text.{cell-exact}
 use Rattle.jobtext.proofs.Lengths.{cell-length}
 use Rattle.celllines.specs.declared.ReadCell.{ReadCell}
-use Rattle.celllines.specs.declared.Section.{Section}
-use Rattle.celllines.specs.Lines.{IsCell, cellPooled}
+use Rattle.celllines.specs.declared.LinesRead.{LinesRead}
+use Rattle.celllines.specs.Lines.{IsCell, CellStored}
 use Rattle.celllines.specs.Columns.{columns, storedCell, Left, leftOf, IsLeft}
 
 pub columns-eq : {a b c d e f g a′ b′ c′ d′ e′ f′ g′ : List ℕ} → a ≡ a′ → b ≡ b′ → c ≡ c′ → d ≡ d′ → e ≡ e′ → f ≡ f′ → g ≡ g′
     → columns a b c d e f g ≡ columns a′ b′ c′ d′ e′ f′ g′
 columns-eq x1 x2 x3 x4 x5 x6 x7 = rw (x1, x2, x3, x4, x5, x6, x7)
-
--- storing one run of bytes and then another
-pub sets-append : (l : List ℕ) (i : ℕ) (a b : List ℕ) → sets l i (a ++ b) ≡ sets (sets l i a) (i + length a) b
-sets-append l i [] b = let z : i + 0 ≡ i = omega arith in rw z
-sets-append l i (x ∷ a) b = let z : i + suc (length a) ≡ suc i + length a = omega arith in rw z (sets-append (set l i x) (suc i) a b)
 
 -- the columns have the lengths that they began with
 pub record Long (d e : CellColumns) : Type 0 where
@@ -43,18 +40,26 @@ pub record Long (d e : CellColumns) : Type 0 where
   pub ats : length (d .ats) ≡ length (e .ats)
   pub lens : length (d .lens) ≡ length (e .lens)
 
+-- `whole` is what the texts so far leave in a pool that drops what does not fit: the pool, as long as all of them fit
 pub record Rest (s : List ℕ) (at n used : ℕ) (d₀ : CellColumns) (pool₀ : List ℕ) (d : CellColumns) (pool : List ℕ)
     (q u i : ℕ) : Type 0 where
-  pub same : leftOf i u (timesP (n - i) (cellLine .parse) s q) d pool ≡ leftOf 0 used (timesP n (cellLine .parse) s at) d₀ pool₀
+  pub whole : List ℕ
+  pub same : leftOf i u (timesP (n - i) (cellLine .parse) s q) d whole ≡ leftOf 0 used (timesP n (cellLine .parse) s at) d₀ pool₀
+  pub stored : u ≤ length pool₀ → pool ≡ whole
+  pub wide : length whole ≡ length pool₀
   pub room : Room s q u
   pub long : Long d d₀
   pub deep : length pool ≡ length pool₀
 
-pub rest-begun : (s : List ℕ) (at n used : ℕ) (d : CellColumns) (pool : List ℕ) → Room s at used → Rest s at n used d pool d pool at used 0
+pub rest-begun : (s : List ℕ) (at n used : ℕ) (d : CellColumns) (pool : List ℕ) → Room s at used → Rest s at n used d pool d pool at
+    used 0
 rest-begun s at n used d pool r =
     let z : n - 0 ≡ n = omega arith in
     record {
+      whole = pool;
       same = rw z;
+      stored = λ h. refl;
+      wide = refl;
       room = r;
       long = record { rows = refl; cols = refl; kinds = refl; wraps = refl; nums = refl; ats = refl; lens = refl };
       deep = refl;
@@ -85,38 +90,46 @@ module _ {s : List ℕ} {at n used : ℕ} {d₀ : CellColumns} {pool₀ : List �
   rest-done h =
       let z : n - i ≡ 0 = omega arith in
       let y : u + 0 ≡ u = omega arith in
-      subst (λ (l : Left). IsLeft l (record { ok = true; next = q; used = u }) d pool) (w .same) (rw (z, y) (refl, refl, refl))
+      let l = w .wide in
+      subst (λ (l : Left). IsLeft l (record { ok = true; next = q; used = u }) d pool) (w .same)
+      (rw (z, y) (refl, refl, λ k. w .stored (omega arith)))
 
-  pub rest-stopped : (c : ReadCell) (r : Section) (e : CellColumns) (after : List ℕ) → i < n → not (c .ok) ≡ true
-      → IsCell (cellLine .parse s q) u c → (r .ok ≡ false) × (r .next ≡ c .next)
+  pub rest-stopped : (c : ReadCell) (r : LinesRead) (e : CellColumns) (after : List ℕ) → i < n → not (c .ok) ≡ true
+      → IsCell (cellLine .parse s q) u c → r ≡ record { ok = false; next = c .next; used = 0 }
       → IsLeft (leftOf 0 used (timesP n (cellLine .parse) s at) d₀ pool₀) r e after
   rest-stopped c r e after h x k y =
       subst (λ (l : Left). IsLeft l r e after) (w .same)
       (rw (times-next n i (cellLine .parse) s q h) (go (cellLine .parse s q) k))
     where
       go : (g : Got CellLine) → IsCell g u c
-          → IsLeft (leftOf i u (then g (λ a k. then (timesP (n - (i + 1)) (cellLine .parse) s k) (λ l e. got (a ∷ l) e))) d pool) r e after
-      go (got a p) k = let z : false ≡ true = sym (ap (λ (b : ReadCell). not (b .ok)) k) ∙ x in let w : _≡_ {A = ℕ} 0 1 = cc in absurd
-          (omega arith)
-      go (bad p) k = (y .0, y .1 ∙ k .1)
+          → IsLeft (leftOf i u (then g (λ a k. then (timesP (n - (i + 1)) (cellLine .parse) s k) (λ l e. got (a ∷ l) e))) d (w .whole)) r
+          e after
+      go (got a p) k = clash true (not (c .ok)) refl (ap (λ (b : ReadCell). not (b .ok)) k) (sym x)
+      go (bad p) k = y ∙ rw (k .1)
 
   pub rest-next : (c : ReadCell) (e : CellColumns) (after : List ℕ) → i < n → not (c .ok) ≡ false
-      → IsCell (cellLine .parse s q) u c → after ≡ cellPooled (cellLine .parse s q) u pool
+      → IsCell (cellLine .parse s q) u c → CellStored (cellLine .parse s q) u pool after → length after ≡ length pool
       → e ≡ storedCell i c d → Rest s at n used d₀ pool₀ e after (c .next) (c .used) (i + 1)
-  rest-next c e after h x k y z = go (cellLine .parse s q) refl k y
+  rest-next c e after h x k y m z = go (cellLine .parse s q) refl k y
     where
-      go : (g : Got CellLine) → cellLine .parse s q ≡ g → IsCell g u c → after ≡ cellPooled g u pool
+      go : (g : Got CellLine) → cellLine .parse s q ≡ g → IsCell g u c → CellStored g u pool after
           → Rest s at n used d₀ pool₀ e after (c .next) (c .used) (i + 1)
       go (got a p) f k y =
           let l = w .long in
+          let b = valueBytes (a .value) in
+          let deep = w .deep in
           let more : Got (List CellLine) = timesP (n - (i + 1)) (cellLine .parse) s p in
           let t : timesP (n - i) (cellLine .parse) s q ≡ then more (λ l e. got (a ∷ l) e) =
           times-next n i (cellLine .parse) s q h
           ∙ ap (λ (g : Got CellLine). then g (λ b k. then (timesP (n - (i + 1)) (cellLine .parse) s k) (λ l e. got (b ∷ l) e))) f in
-          rw (z, y, k)
+          rw (z, k)
           (record {
-            same = sym (left-next i u a d pool more) ∙ (sym (ap (λ (g : Got (List CellLine)). leftOf i u g d pool) t) ∙ w .same);
-            room = room-past cell-exact a p (length (valueBytes (a .value))) (w .room) f (cell-length a);
+            whole = sets (w .whole) u b;
+            same = sym (left-next i u a d (w .whole) more)
+                ∙ (sym (ap (λ (g : Got (List CellLine)). leftOf i u g d (w .whole)) t) ∙ w .same);
+            stored = λ o. y (omega arith) ∙ ap (λ (l : List ℕ). sets l u b) (w .stored (omega arith));
+            wide = length-sets (w .whole) u b ∙ w .wide;
+            room = room-past cell-exact a p (length b) (w .room) f (cell-length a);
             long = record {
               rows = length-set (d .rows) i (a .row) ∙ l .rows;
               cols = length-set (d .cols) i (a .col) ∙ l .cols;
@@ -126,6 +139,6 @@ module _ {s : List ℕ} {at n used : ℕ} {d₀ : CellColumns} {pool₀ : List �
               ats = length-set (d .ats) i (atOf u (a .value)) ∙ l .ats;
               lens = length-set (d .lens) i (lenOf (a .value)) ∙ l .lens;
             };
-            deep = length-sets pool u (valueBytes (a .value)) ∙ w .deep;
+            deep = m ∙ deep;
           })
-      go (bad p) f k y = let z : true ≡ false = sym (ap not (k .0)) ∙ x in let w : _≡_ {A = ℕ} 0 1 = cc in absurd (omega arith)
+      go (bad p) f k y = clash true (not (c .ok)) refl x (sym (ap not (k .0)))

@@ -6,18 +6,20 @@ use mathlib.Core.Bool.{Bool, true, false}
 use mathlib.Core.List.{List, [], _∷_}
 use native.Mathlib.Omega.{arith}
 use lib.ListN.{length, drop}
+use Rattle.memory.proofs.Laws.{all-fits}
 use Rattle.grammar.specs.Gram.{Got}
 use Rattle.grammar.specs.Gram.Got.{got, bad}
 use Rattle.grammar.specs.Parts.{then, bytes, byteP, wordP, ended, either}
 use Rattle.grammar.specs.Numbers.{hex, pairsFrom}
 use Rattle.fields.specs.declared.Field.{Field}
+use Rattle.fields.specs.declared.ReadText.{ReadText}
 use Rattle.fields.specs.Field.{fieldOf, wordOf, eitherOf, textOf, pooled}
 use Rattle.fields.proofs.Laws.{word-got, word-bad, word-byte}
 use Rattle.jobtext.specs.Written.{Value}
 use Rattle.jobtext.specs.Fields.{toValue, value}
 use Rattle.jobtext.specs.Laid.{valueBytes, kindOf, numOf, atOf, lenOf}
 use Rattle.celllines.specs.declared.ReadValue.{ReadValue}
-use Rattle.celllines.specs.Lines.{IsValue, valuePooled}
+use Rattle.celllines.specs.Lines.{IsValue, ValueStored}
 
 -- a value that was made of what was read, made into another
 pub fused : {A B C : Type 0} (g : Got A) (f : A → B) (h : B → C)
@@ -93,7 +95,7 @@ module _ (s : List ℕ) (at : ℕ) where
 module _ (s : List ℕ) (at used : ℕ) (pool : List ℕ) where
   -- what is said of the answer r and of the pool at the end
   abbrev Says : Got Value → ReadValue → List ℕ → Type 0
-  Says g r after = IsValue g used r × (after ≡ valuePooled g used pool)
+  Says g r after = IsValue g used r × ValueStored g used pool after
 
   module _ {n : Field} (en : n ≡ wordOf (byteP 110 s at)) where
     pub number-answer : {f : Field} {r : ReadValue} → n .ok ≡ true → f ≡ fieldOf (ended (hex 16) (10 ∷ []) .parse s (n .next))
@@ -104,8 +106,8 @@ module _ (s : List ℕ) (at used : ℕ) (pool : List ℕ) where
       where
         go : (g : Got ℕ) → f ≡ fieldOf g → Says (then g (λ b e. got (Value.number b) e))
             (record { ok = f .ok; kind = 1; num = f .value; at = 0; len = 0; next = f .next; used = used }) pool
-        go (got b q) e = let z : used + 0 ≡ used = omega arith in rw (e, z) (refl, refl)
-        go (bad p) e = rw e ((refl, refl), refl)
+        go (got b q) e = let z : used + 0 ≡ used = omega arith in rw (e, z) (refl, λ h. refl)
+        go (bad p) e = rw e ((refl, refl), tt)
 
     module _ (xn : n .ok ≡ false) {d : Field} (ed : d ≡ wordOf (byteP 100 s at)) where
       pub date-answer : {f : Field} {r : ReadValue} → d .ok ≡ true → f ≡ fieldOf (ended (hex 16) (10 ∷ []) .parse s (d .next))
@@ -118,24 +120,26 @@ module _ (s : List ℕ) (at used : ℕ) (pool : List ℕ) where
         where
           go : (g : Got ℕ) → f ≡ fieldOf g → Says (then g (λ b e. got (Value.date b) e))
               (record { ok = f .ok; kind = 2; num = f .value; at = 0; len = 0; next = f .next; used = used }) pool
-          go (got b q) e = let z : used + 0 ≡ used = omega arith in rw (e, z) (refl, refl)
-          go (bad p) e = rw e ((refl, refl), refl)
+          go (got b q) e = let z : used + 0 ≡ used = omega arith in rw (e, z) (refl, λ h. refl)
+          go (bad p) e = rw e ((refl, refl), tt)
 
       module _ (xd : d .ok ≡ false) {t : Field} (et : t ≡ wordOf (byteP 116 s at)) where
-        pub text-answer : {f : Field} {after : List ℕ} → t .ok ≡ true → f ≡ textOf (pairsFrom 10 (t .next) (drop (t .next) s))
+        pub text-answer : {f : ReadText} {after : List ℕ} → t .ok ≡ true
+            → f ≡ textOf (pairsFrom 10 (t .next) (drop (t .next) s)) used (length pool)
             → after ≡ pooled (pairsFrom 10 (t .next) (drop (t .next) s)) used pool
             → Says (value .parse s at)
-            (record { ok = f .ok; kind = 3; num = 0; at = used; len = f .value; next = f .next; used = used + f .value }) after
+            (record { ok = f .ok; kind = 3; num = 0; at = used; len = f .length; next = f .next; used = used + f .length }) after
         unfolding valueBytes kindOf numOf atOf lenOf
         text-answer {f} {after} x e y =
             rw (value-t s at (n .next) (letter-bad 110 s at en xn) (d .next) (letter-bad 100 s at ed xd) (t .next)
             (letter-got 116 s at et x))
             (go (pairsFrom 10 (t .next) (drop (t .next) s)) e y)
           where
-            go : (g : Got (List ℕ)) → f ≡ textOf g → after ≡ pooled g used pool → Says (then g (λ bs e. got (Value.text bs) e))
-                (record { ok = f .ok; kind = 3; num = 0; at = used; len = f .value; next = f .next; used = used + f .value }) after
-            go (got bs q) e y = let z : 0 + length bs ≡ length bs = omega arith in rw (e, z) (refl, y)
-            go (bad p) e y = rw e ((refl, refl), y)
+            go : (g : Got (List ℕ)) → f ≡ textOf g used (length pool) → after ≡ pooled g used pool
+                → Says (then g (λ bs e. got (Value.text bs) e))
+                (record { ok = f .ok; kind = 3; num = 0; at = used; len = f .length; next = f .next; used = used + f .length }) after
+            go (got bs q) e y = rw e (refl, λ h. y ∙ all-fits 0 pool used bs h)
+            go (bad p) e y = rw e ((refl, refl), tt)
 
         module _ (xt : t .ok ≡ false) {b : Field} (eb : b ≡ wordOf (byteP 98 s at)) where
           pub bool-answer : {f : Field} {r : ReadValue} → b .ok ≡ true
@@ -153,8 +157,8 @@ module _ (s : List ℕ) (at used : ℕ) (pool : List ℕ) where
             where
               go : (g : Got Bool) → f ≡ eitherOf g → Says (then g (λ b e. got (Value.bool b) e))
                   (record { ok = f .ok; kind = 4; num = 0; at = 0; len = f .value; next = f .next; used = used }) pool
-              go (got b q) e = let z : used + 0 ≡ used = omega arith in rw (e, z) (refl, refl)
-              go (bad p) e = rw e ((refl, refl), refl)
+              go (got b q) e = let z : used + 0 ≡ used = omega arith in rw (e, z) (refl, λ h. refl)
+              go (bad p) e = rw e ((refl, refl), tt)
 
           pub error-answer : {f : Field} {r : ReadValue} → b .ok ≡ false → f ≡ wordOf (wordP (101 ∷ 10 ∷ []) s at)
               → r ≡ record { ok = f .ok; kind = 5; num = 0; at = 0; len = 0; next = f .next; used = used }
@@ -170,5 +174,5 @@ module _ (s : List ℕ) (at used : ℕ) (pool : List ℕ) where
             where
               go : (g : Got (Unit {0})) → f ≡ wordOf g → Says (then g (λ _ e. got Value.error e))
                   (record { ok = f .ok; kind = 5; num = 0; at = 0; len = 0; next = f .next; used = used }) pool
-              go (got x q) e = let z : used + 0 ≡ used = omega arith in rw (e, z) (refl, refl)
-              go (bad p) e = rw e ((refl, refl), refl)
+              go (got x q) e = let z : used + 0 ≡ used = omega arith in rw (e, z) (refl, λ h. refl)
+              go (bad p) e = rw e ((refl, refl), tt)

@@ -1,11 +1,13 @@
--- What the lines of cells leave in the columns and in the pool: the cells from index 0 on, or zeros from end to end where a line is
--- malformed. Assumes nothing.
-use Prim.Native.Nat.{ℕ, _+_}
-use mathlib.Core.Bool.{Bool, true, false}
+-- What the lines of cells leave in the columns and in the pool: the cells alone in the columns, their texts in the pool, or zeros from
+-- end to end where a line is malformed or not all fits. Assumes nothing.
+use Prim.Native.Nat.{ℕ, _+_, _≤_}
+use mathlib.Core.Bool.{Bool, true, false, _&&_}
 use mathlib.Core.List.{List}
 use mathlib.Core.Path.{_≡_}
+use lib.Dec.{leb}
 use lib.ListN.{length, replicate, set}
 use lib.Seq.{sets}
+use Rattle.memory.specs.Memory.{fits, allOrZeros, pageOf}
 use Rattle.model.specs.Sheet.{CellColumns}
 use Rattle.grammar.specs.Gram.{Got}
 use Rattle.grammar.specs.Gram.Got.{got, bad}
@@ -15,6 +17,7 @@ use Rattle.jobtext.specs.Written.{CellLine}
 use Rattle.jobtext.specs.Text.{cellLine}
 use Rattle.jobtext.specs.Laid.{cellBytes, columnsFrom}
 use Rattle.celllines.specs.declared.ReadCell.{ReadCell}
+use Rattle.celllines.specs.declared.LinesRead.{LinesRead}
 use Rattle.celllines.specs.declared.Section.{Section}
 
 abbrev pub columns : List ℕ → List ℕ → List ℕ → List ℕ → List ℕ → List ℕ → List ℕ → CellColumns
@@ -43,9 +46,11 @@ abbrev pub leftOf : ℕ → ℕ → Got (List CellLine) → CellColumns → List
 leftOf i u (got cs q) d pool = Left.done q (u + length (cellBytes cs)) (overlaid i (columnsFrom u cs) d) (sets pool u (cellBytes cs))
 leftOf i u (bad p) d pool = Left.stopped p
 
-abbrev pub IsLeft : Left → Section → CellColumns → List ℕ → Type 0
-IsLeft (Left.done q u d pool) r e after = (r ≡ record { ok = true; next = q; used = u }) × (e ≡ d) × (after ≡ pool)
-IsLeft (Left.stopped p) r e after = (r .ok ≡ false) × (r .next ≡ p)
+-- nothing is said of the pool where its texts do not fit
+abbrev pub IsLeft : Left → LinesRead → CellColumns → List ℕ → Type 0
+IsLeft (Left.done q u d pool) r e after =
+    (r ≡ record { ok = true; next = q; used = u }) × (e ≡ d) × (u ≤ length pool → after ≡ pool)
+IsLeft (Left.stopped p) r e after = r ≡ record { ok = false; next = p; used = 0 }
 
 -- ---- the whole section
 
@@ -64,14 +69,32 @@ cellsIf false s at n = bad at
 unfoldable pub cellsAt : List ℕ → ℕ → ℕ → ℕ → Got (List CellLine)
 cellsAt s at n used = cellsIf (roomy s at used) s at n
 
-abbrev pub sectionOf : ℕ → Got (List CellLine) → Section
-sectionOf used (got cs q) = record { ok = true; next = q; used = used + length (cellBytes cs) }
-sectionOf used (bad p) = record { ok = false; next = p; used = 0 }
+-- whether n cells are within each column
+abbrev pub held : ℕ → CellColumns → Bool
+held n d =
+    leb n (length (d .rows)) && leb n (length (d .cols)) && leb n (length (d .kinds)) && leb n (length (d .wraps))
+    && leb n (length (d .nums)) && leb n (length (d .ats)) && leb n (length (d .lens))
 
-abbrev pub columnsAfter : ℕ → Got (List CellLine) → CellColumns → CellColumns
-columnsAfter used (got cs q) d = overlaid 0 (columnsFrom used cs) d
-columnsAfter used (bad p) d = blank d
+-- whether cells are within the columns, and their texts, from `used` on, within the pool
+abbrev pub allFit : ℕ → List CellLine → CellColumns → List ℕ → Bool
+allFit used cs d pool = held (length cs) d && fits (length pool) used (length (cellBytes cs))
 
-abbrev pub poolAfter : ℕ → Got (List CellLine) → List ℕ → List ℕ
-poolAfter used (got cs q) pool = sets pool used (cellBytes cs)
-poolAfter used (bad p) pool = zeros pool
+abbrev pub sectionOf : ℕ → Got (List CellLine) → CellColumns → List ℕ → Section
+sectionOf used (got cs q) d pool =
+    record { ok = true; fits = allFit used cs d pool; next = q; used = used + length (cellBytes cs) }
+sectionOf used (bad p) d pool = record { ok = false; fits = false; next = p; used = 0 }
+
+-- columns of the lengths of d that hold c alone, or zeros from end to end
+abbrev pub pages : Bool → CellColumns → CellColumns → CellColumns
+pages ok c d =
+    columns (pageOf ok (length (d .rows)) (c .rows)) (pageOf ok (length (d .cols)) (c .cols))
+    (pageOf ok (length (d .kinds)) (c .kinds)) (pageOf ok (length (d .wraps)) (c .wraps)) (pageOf ok (length (d .nums)) (c .nums))
+    (pageOf ok (length (d .ats)) (c .ats)) (pageOf ok (length (d .lens)) (c .lens))
+
+abbrev pub columnsAfter : ℕ → Got (List CellLine) → CellColumns → List ℕ → CellColumns
+columnsAfter used (got cs q) d pool = pages (allFit used cs d pool) (columnsFrom used cs) d
+columnsAfter used (bad p) d pool = blank d
+
+abbrev pub poolAfter : ℕ → Got (List CellLine) → CellColumns → List ℕ → List ℕ
+poolAfter used (got cs q) d pool = allOrZeros (allFit used cs d pool) pool used (cellBytes cs)
+poolAfter used (bad p) d pool = zeros pool

@@ -1,6 +1,6 @@
 -- What the readers of cell lines answer for each result of the grammar, and what they leave in the columns and in the pool.
 -- Assumes nothing.
-use Prim.Native.Nat.{ℕ, _+_}
+use Prim.Native.Nat.{ℕ, _+_, _≤_}
 use mathlib.Core.Bool.{true, false}
 use mathlib.Core.List.{List}
 use mathlib.Core.Path.{_≡_}
@@ -19,9 +19,13 @@ IsValue (got v q) u r =
     r ≡ record { ok = true; kind = kindOf v; num = numOf v; at = atOf u v; len = lenOf v; next = q; used = u + length (valueBytes v) }
 IsValue (bad p) u r = (r .ok ≡ false) × (r .next ≡ p)
 
-abbrev pub valuePooled : Got Value → ℕ → List ℕ → List ℕ
-valuePooled (got v q) u pool = sets pool u (valueBytes v)
-valuePooled (bad p) u pool = pool
+-- a pool with bytes at u, where they fit; nothing is said of it where they do not
+abbrev pub Stored : List ℕ → ℕ → List ℕ → List ℕ → Type 0
+Stored pool u bs after = u + length bs ≤ length pool → after ≡ sets pool u bs
+
+abbrev pub ValueStored : Got Value → ℕ → List ℕ → List ℕ → Type 0
+ValueStored (got v q) u pool after = Stored pool u (valueBytes v) after
+ValueStored (bad p) u pool after = Unit {0}
 
 abbrev pub IsCell : Got CellLine → ℕ → ReadCell → Type 0
 IsCell (got c q) u r =
@@ -39,6 +43,6 @@ IsCell (got c q) u r =
     }
 IsCell (bad p) u r = (r .ok ≡ false) × (r .next ≡ p)
 
-abbrev pub cellPooled : Got CellLine → ℕ → List ℕ → List ℕ
-cellPooled (got c q) u pool = sets pool u (valueBytes (c .value))
-cellPooled (bad p) u pool = pool
+abbrev pub CellStored : Got CellLine → ℕ → List ℕ → List ℕ → Type 0
+CellStored (got c q) u pool after = Stored pool u (valueBytes (c .value)) after
+CellStored (bad p) u pool after = Unit {0}

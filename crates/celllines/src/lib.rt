@@ -1,43 +1,54 @@
 // Cell lines of a job text, into lent columns, with the texts into a lent pool.
+mod stores;
+
 use fields::Field;
 ghost use Prim.Native.Nat.{_+_};
-ghost use mathlib.Core.Bool.{false};
+ghost use mathlib.Core.Bool.{false, _&&_};
 ghost use mathlib.Core.Path.{_≡_};
+ghost use lib.Dec.{leb};
 ghost use lib.ListN.{length, replicate};
 ghost use Rattle.grammar.specs.Parts.{timesP};
 ghost use Rattle.fields.specs.Room.{Room};
 ghost use Rattle.jobtext.specs.Fields.{value};
 ghost use Rattle.jobtext.specs.Text.{cellLine};
 ghost use Rattle.celllines.specs.Columns.{columns, storedCell, leftOf, IsLeft, blank, cellsAt, sectionOf, columnsAfter, poolAfter};
-ghost use Rattle.celllines.specs.Lines.{IsValue, valuePooled, IsCell, cellPooled};
+ghost use Rattle.celllines.specs.Lines.{IsValue, ValueStored, IsCell, CellStored};
 
 // A value as the columns hold it, the place after it, and up to where the pool is then used.
-pub struct ReadValue {
-    pub ok: bool,
-    pub kind: u8,
-    pub num: u64,
-    pub at: u32,
-    pub len: u32,
-    pub next: usize,
-    pub used: usize,
+struct ReadValue {
+    ok: bool,
+    kind: u8,
+    num: u64,
+    at: u32,
+    len: u32,
+    next: usize,
+    used: usize,
 }
 
-pub struct ReadCell {
-    pub ok: bool,
-    pub row: u32,
-    pub col: u16,
-    pub kind: u8,
-    pub wraps: u8,
-    pub num: u64,
-    pub at: u32,
-    pub len: u32,
-    pub next: usize,
-    pub used: usize,
+struct ReadCell {
+    ok: bool,
+    row: u32,
+    col: u16,
+    kind: u8,
+    wraps: u8,
+    num: u64,
+    at: u32,
+    len: u32,
+    next: usize,
+    used: usize,
 }
 
 // The place after some lines, and up to where the pool is then used; or the place at which they cannot be read on.
+struct LinesRead {
+    ok: bool,
+    next: usize,
+    used: usize,
+}
+
+// The same, and whether all cells fit the columns and their texts the pool.
 pub struct Section {
     pub ok: bool,
+    pub fits: bool,
     pub next: usize,
     pub used: usize,
 }
@@ -60,7 +71,7 @@ fn plain(f: Field, kind: u8, num: u64, len: u32, used: usize) -> ReadValue
 fn read_value(s: &[u8], at: usize, pool: &mut [u8], used: usize) -> ReadValue
     requires { ⌜ Room (now s) at used ⌝ }
     ensures { λ r. ⌜ IsValue (value .parse (now (s .entry)) at) used r ⌝ }
-    ensures { λ _. ⌜ now (pool .exit) ≡ valuePooled (value .parse (now (s .entry)) at) used (now (pool .entry)) ⌝ }
+    ensures { λ _. ⌜ ValueStored (value .parse (now (s .entry)) at) used (now (pool .entry)) (now (pool .exit)) ⌝ }
 {
     let n = fields::byte(s, at, b'n');
     if n.ok {
@@ -80,9 +91,9 @@ fn read_value(s: &[u8], at: usize, pool: &mut [u8], used: usize) -> ReadValue
             kind: 3,
             num: 0,
             at: used as u32,
-            len: f.value as u32,
+            len: f.length as u32,
             next: f.next,
-            used: used + f.value as usize,
+            used: used + f.length as usize,
         };
     }
     let b = fields::byte(s, at, b'b');
@@ -114,7 +125,7 @@ fn no_cell(next: usize) -> ReadCell
 fn read_cell(s: &[u8], at: usize, pool: &mut [u8], used: usize) -> ReadCell
     requires { ⌜ Room (now s) at used ⌝ }
     ensures { λ r. ⌜ IsCell (cellLine .parse (now (s .entry)) at) used r ⌝ }
-    ensures { λ _. ⌜ now (pool .exit) ≡ cellPooled (cellLine .parse (now (s .entry)) at) used (now (pool .entry)) ⌝ }
+    ensures { λ _. ⌜ CellStored (cellLine .parse (now (s .entry)) at) used (now (pool .entry)) (now (pool .exit)) ⌝ }
 {
     let row = fields::decimal(s, at, 4294967295, b' ');
     if !row.ok {
@@ -159,16 +170,16 @@ fn store_cell(
         (ats .exit)) (now (lens .exit)) ≡ storedCell i c (columns (now (rows .entry)) (now (cols .entry)) (now (kinds .entry)) (now
         (wraps .entry)) (now (nums .entry)) (now (ats .entry)) (now (lens .entry))) ⌝ }
 {
-    lent::put_u32(rows, i, c.row);
-    lent::put_u16(cols, i, c.col);
-    lent::put_u8(kinds, i, c.kind);
-    lent::put_u8(wraps, i, c.wraps);
-    lent::put_u64(nums, i, c.num);
-    lent::put_u32(ats, i, c.at);
-    lent::put_u32(lens, i, c.len);
+    stores::put_u32(rows, i, c.row);
+    stores::put_u16(cols, i, c.col);
+    stores::put_u8(kinds, i, c.kind);
+    stores::put_u8(wraps, i, c.wraps);
+    stores::put_u64(nums, i, c.num);
+    stores::put_u32(ats, i, c.at);
+    stores::put_u32(lens, i, c.len);
 }
 
-// Lines of cells, from index 0 on.
+// Lines of cells, from index 0 on, where there is room.
 fn read_lines(
     s: &[u8],
     at: usize,
@@ -182,7 +193,7 @@ fn read_lines(
     ats: &mut [u32],
     lens: &mut [u32],
     pool: &mut [u8],
-) -> Section
+) -> LinesRead
     requires { ⌜ Room (now s) at used ⌝ }
     ensures { λ r. ⌜ IsLeft (leftOf 0 used (timesP number (cellLine .parse) (now (s .entry)) at) (columns (now (rows .entry)) (now
         (cols .entry)) (now (kinds .entry)) (now (wraps .entry)) (now (nums .entry)) (now (ats .entry)) (now (lens .entry))) (now
@@ -195,7 +206,7 @@ fn read_lines(
     while i < number {
         let c = read_cell(s, q, pool, u);
         if !c.ok {
-            return Section {
+            return LinesRead {
                 ok: false,
                 next: c.next,
                 used: 0,
@@ -206,7 +217,7 @@ fn read_lines(
         u = c.used;
         i += 1;
     }
-    Section {
+    LinesRead {
         ok: true,
         next: q,
         used: u,
@@ -214,6 +225,29 @@ fn read_lines(
 }
 
 // Zeros from end to end.
+fn clear_columns(
+    rows: &mut [u32],
+    cols: &mut [u16],
+    kinds: &mut [u8],
+    wraps: &mut [u8],
+    nums: &mut [u64],
+    ats: &mut [u32],
+    lens: &mut [u32],
+)
+    ensures { λ _. ⌜ columns (now (rows .exit)) (now (cols .exit)) (now (kinds .exit)) (now (wraps .exit)) (now (nums .exit)) (now
+        (ats .exit)) (now (lens .exit)) ≡ blank (columns (now (rows .entry)) (now (cols .entry)) (now (kinds .entry)) (now
+        (wraps .entry)) (now (nums .entry)) (now (ats .entry)) (now (lens .entry))) ⌝ }
+{
+    lent::clear_u32(rows);
+    lent::clear_u16(cols);
+    lent::clear_u8(kinds);
+    lent::clear_u8(wraps);
+    lent::clear_u64(nums);
+    lent::clear_u32(ats);
+    lent::clear_u32(lens);
+}
+
+// The same, and of the pool.
 pub fn clear_cells(
     rows: &mut [u32],
     cols: &mut [u16],
@@ -229,18 +263,45 @@ pub fn clear_cells(
         (wraps .entry)) (now (nums .entry)) (now (ats .entry)) (now (lens .entry))) ⌝ }
     ensures { λ _. ⌜ now (pool .exit) ≡ replicate (length (now (pool .entry))) 0 ⌝ }
 {
-    lent::clear_u32(rows);
-    lent::clear_u16(cols);
-    lent::clear_u8(kinds);
-    lent::clear_u8(wraps);
-    lent::clear_u64(nums);
-    lent::clear_u32(ats);
-    lent::clear_u32(lens);
+    clear_columns(rows, cols, kinds, wraps, nums, ats, lens);
     lent::clear_u8(pool);
 }
 
-// Lines of cells into the columns from index 0 on, with their texts into the pool from `used` on. Where a line is malformed, or the
-// text is longer than 65,536 bytes or `used` past `at`, all that is lent becomes 0.
+fn within(ok: bool, number: usize, size: usize) -> bool
+    ensures { λ r. ⌜ r ≡ (ok && leb number size) ⌝ }
+{
+    if ok {
+        return number <= size;
+    }
+    false
+}
+
+// Whether a number of cells are within columns of these lengths.
+fn all_within(
+    ok: bool,
+    number: usize,
+    rows: usize,
+    cols: usize,
+    kinds: usize,
+    wraps: usize,
+    nums: usize,
+    ats: usize,
+    lens: usize,
+) -> bool
+    ensures { λ r. ⌜ r ≡ (ok && leb number rows && leb number cols && leb number kinds && leb number wraps && leb number nums
+        && leb number ats && leb number lens) ⌝ }
+{
+    let a = within(ok, number, rows);
+    let b = within(a, number, cols);
+    let c = within(b, number, kinds);
+    let d = within(c, number, wraps);
+    let e = within(d, number, nums);
+    let f = within(e, number, ats);
+    within(f, number, lens)
+}
+
+// Lines of cells alone in the columns, with their texts into the pool from `used` on. Where a line is malformed, the text is longer than
+// 65,536 bytes, `used` is past `at`, or not all fits the columns and the pool, all that is lent becomes 0.
 pub fn read_cells(
     s: &[u8],
     at: usize,
@@ -255,20 +316,25 @@ pub fn read_cells(
     lens: &mut [u32],
     pool: &mut [u8],
 ) -> Section
-    ensures { λ r. ⌜ r ≡ sectionOf used (cellsAt (now (s .entry)) at number used) ⌝ }
+    ensures { λ r. ⌜ r ≡ sectionOf used (cellsAt (now (s .entry)) at number used) (columns (now (rows .entry)) (now (cols .entry)) (now
+        (kinds .entry)) (now (wraps .entry)) (now (nums .entry)) (now (ats .entry)) (now (lens .entry))) (now (pool .entry)) ⌝ }
     ensures { λ _. ⌜ (columns (now (rows .exit)) (now (cols .exit)) (now (kinds .exit)) (now (wraps .exit)) (now (nums .exit)) (now
         (ats .exit)) (now (lens .exit)) ≡ columnsAfter used (cellsAt (now (s .entry)) at number used) (columns (now (rows .entry)) (now
-        (cols .entry)) (now (kinds .entry)) (now (wraps .entry)) (now (nums .entry)) (now (ats .entry)) (now (lens .entry)))) × (now
-        (pool .exit) ≡ poolAfter used (cellsAt (now (s .entry)) at number used) (now (pool .entry))) ⌝ }
+        (cols .entry)) (now (kinds .entry)) (now (wraps .entry)) (now (nums .entry)) (now (ats .entry)) (now (lens .entry))) (now
+        (pool .entry))) × (now (pool .exit) ≡ poolAfter used (cellsAt (now (s .entry)) at number used) (columns (now (rows .entry)) (now
+        (cols .entry)) (now (kinds .entry)) (now (wraps .entry)) (now (nums .entry)) (now (ats .entry)) (now (lens .entry))) (now
+        (pool .entry))) ⌝ }
 {
     if !fields::has_room(s, at, used) {
         clear_cells(rows, cols, kinds, wraps, nums, ats, lens, pool);
         return Section {
             ok: false,
+            fits: false,
             next: at,
             used: 0,
         };
     }
+    clear_columns(rows, cols, kinds, wraps, nums, ats, lens);
     let r = read_lines(
         s,
         at,
@@ -283,13 +349,25 @@ pub fn read_cells(
         lens,
         pool,
     );
-    if r.ok {
-        return r;
+    let held = all_within(
+        r.ok,
+        number,
+        rows.len(),
+        cols.len(),
+        kinds.len(),
+        wraps.len(),
+        nums.len(),
+        ats.len(),
+        lens.len(),
+    );
+    let fits = within(held, r.used, pool.len());
+    if !fits {
+        clear_cells(rows, cols, kinds, wraps, nums, ats, lens, pool);
     }
-    clear_cells(rows, cols, kinds, wraps, nums, ats, lens, pool);
     Section {
-        ok: false,
+        ok: r.ok,
+        fits,
         next: r.next,
-        used: 0,
+        used: r.used,
     }
 }

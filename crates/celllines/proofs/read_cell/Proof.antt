@@ -77,6 +77,7 @@ returns-4 c = cell-answer _ _ _ _ (c .before .before .before .before .before .be
     .decimal2 .ensures) (c .before .before .before .before .before .before .before .before .before .before .if2 .left)
     (c .before .before .before .before .before .before .before .before .before .decimal3 .ensures)
     (c .before .before .before .before .before .before .before .if3 .left) _
+    (c .before .before .before .before .before .read-value .last .1 .1 .0)
     (c .before .before .before .before .before .read-value .ensures .0)
     (c .before .before .before .before .before .read-value .ensures .1)
 

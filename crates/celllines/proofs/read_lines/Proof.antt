@@ -51,7 +51,7 @@ same-length-8 c = c .before .before .before .before .read-cell .kept .1 .1 .0 �
 returns : tie.Need-returns Inv-loop μ-loop
 returns c = rest-stopped (c .before .before .before .before .before .before .before .loop .inv)
     (c .before .before .before .before .read-cell .result) _ _ _ (omega arith) (c .if1 .taken)
-    (c .before .before .before .before .read-cell .ensures .0) (refl, refl)
+    (c .before .before .before .before .read-cell .ensures .0) refl
 
 store-cell-requires : tie.Need-store-cell-requires Inv-loop μ-loop
 store-cell-requires c κs = search needs
@@ -77,7 +77,9 @@ loop-again c = rest-next (c .before .before .before .before .before .before .bef
     (c .before .before .before .before .before .before .before .before .before .before .before .before .before .before .before .before
     .before .before .before .before .before .before .before .before .before .before .read-cell .ensures .0)
     (c .before .before .before .before .before .before .before .before .before .before .before .before .before .before .before .before
-    .before .before .before .before .before .before .before .before .before .before .read-cell .ensures .1)
+    .before .before .before .before .before .before .before .before .before .before .read-cell .ensures .1) (c .before .before .before
+    .before .before .before .before .before .before .before .before .before .before .before .before .before .before .before .before
+    .before .before .before .before .before .before .before .read-cell .kept .1 .1 .0)
     (c .before .before .before .before .before .before .before .before .before .before .before .before .before .before .store-cell
     .ensures)
 

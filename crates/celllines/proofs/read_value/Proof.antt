@@ -28,7 +28,7 @@ cast-t20 c = omega (
 cast-t21 : tie.Need-cast-t21
 cast-t21 c = omega (
   arith,
-  text-small _ _ _ (c .before .before .before .text .ensures .0),
+  text-small _ _ _ _ _ (c .before .before .before .text .ensures .0),
   c .before .before .before .before .before
       .before .before .before .before .before .before .before .before .pre .short,
 )
@@ -36,7 +36,7 @@ cast-t21 c = omega (
 add-t23 : tie.Need-add-t23
 add-t23 c = omega (
   arith,
-  text-small _ _ _ (c .before .before .before .text .ensures .0),
+  text-small _ _ _ _ _ (c .before .before .before .text .ensures .0),
   c .before .before .before .before .before
       .before .before .before .before .before .before .before .before .pre .short,
   room-used
