@@ -59,32 +59,32 @@ expr-word-room {s} {at} {used} {f} r e x = room-on (word-exact exprWord) tt (f .
 -- rules without a name leave the pool as it is
 scale2-unpooled : (g : Got (Rgb × Rgb)) (used : ℕ) (pool : List ℕ) → Pooled kindBytes (madeScale2 g) used pool pool
 unfolding kindBytes
-scale2-unpooled (got x q) used pool = refl
+scale2-unpooled (got x q) used pool = λ _. refl
 scale2-unpooled (bad p) used pool = tt
 
 scale3-unpooled : (g : Got (Rgb × (Rgb × Rgb))) (used : ℕ) (pool : List ℕ) → Pooled kindBytes (madeScale3 g) used pool pool
 unfolding kindBytes
-scale3-unpooled (got x q) used pool = refl
+scale3-unpooled (got x q) used pool = λ _. refl
 scale3-unpooled (bad p) used pool = tt
 
 bar-unpooled : (g : Got Rgb) (used : ℕ) (pool : List ℕ) → Pooled kindBytes (madeBar g) used pool pool
 unfolding kindBytes
-bar-unpooled (got x q) used pool = refl
+bar-unpooled (got x q) used pool = λ _. refl
 bar-unpooled (bad p) used pool = tt
 
 rank-unpooled : (g : Got rankT) (used : ℕ) (pool : List ℕ) → Pooled kindBytes (madeRank g) used pool pool
 unfolding kindBytes
-rank-unpooled (got x q) used pool = refl
+rank-unpooled (got x q) used pool = λ _. refl
 rank-unpooled (bad p) used pool = tt
 
 mean-unpooled : (g : Got (Bool × Rgb)) (used : ℕ) (pool : List ℕ) → Pooled kindBytes (madeMean g) used pool pool
 unfolding kindBytes
-mean-unpooled (got x q) used pool = refl
+mean-unpooled (got x q) used pool = λ _. refl
 mean-unpooled (bad p) used pool = tt
 
 same-unpooled : (g : Got (Bool × Rgb)) (used : ℕ) (pool : List ℕ) → Pooled kindBytes (madeSame g) used pool pool
 unfolding kindBytes
-same-unpooled (got x q) used pool = refl
+same-unpooled (got x q) used pool = λ _. refl
 same-unpooled (bad p) used pool = tt
 
 -- ---- word by word

@@ -5,10 +5,11 @@ use mathlib.Core.Path.{_≡_, refl, sym, ap, _∙_, subst}
 use mathlib.Core.Bool.{Bool, true, false, not}
 use mathlib.Core.List.{List, [], _∷_, _++_}
 use native.Mathlib.Omega.{arith}
-use lib.ListN.{length, set, length-append}
-use lib.Seq.{sets}
+use lib.ListN.{length, length-append}
+use lib.Seq.{sets, length-sets}
 use lib.Dec.{ltb}
 use borrow.Author.Tests.{ltb-true, ltb-false}
+use Rattle.memory.proofs.Laws.{sets-append}
 use Rattle.model.specs.declared.CfRule.{CfRule}
 use Rattle.model.specs.declared.ConditionalOperand.{ConditionalOperand}
 use Rattle.model.specs.declared.ConditionalComparison.{ConditionalComparison}
@@ -34,15 +35,19 @@ use Rattle.jobtext.proofs.Lengths.{operand-length}
 use Rattle.rulelines.specs.declared.operand.ReadOperand.{ReadOperand}
 use Rattle.rulelines.specs.declared.kinds.ReadKind.{ReadKind}
 use Rattle.rulelines.specs.declared.parts.ReadRgb.{ReadRgb}
-use Rattle.rulelines.specs.Lines.{IsRgb, IsOperand, Pooled}
+use Rattle.rulelines.specs.Lines.{IsRgb, IsOperand, Stored, Pooled}
 use Rattle.rulelines.specs.RuleWords.{IsKind, madeCellIs, madeExpr}
 use Rattle.rulelines.proofs.Colours.{dvOp-last}
 use Rattle.rulelines.proofs.RuleWords.{feed}
 
--- storing one run of bytes and then another
-pub sets-append : (l : List ℕ) (i : ℕ) (a b : List ℕ) → sets l i (a ++ b) ≡ sets (sets l i a) (i + length a) b
-sets-append l i [] b = let z : i + 0 ≡ i = omega arith in rw z
-sets-append l i (x ∷ a) b = let z : i + suc (length a) ≡ suc i + length a = omega arith in rw z (sets-append (set l i x) (suc i) a b)
+-- one run of bytes in the pool, and then another
+pub stored-both : (pool : List ℕ) (u : ℕ) (a b : List ℕ) {mid after : List ℕ} {v : ℕ} → v ≡ u + length a → Stored pool u a mid
+    → Stored mid v b after → Stored pool u (a ++ b) after
+stored-both pool u a b {mid} {after} e x y h =
+    let k = length-append a b in
+    let m : mid ≡ sets pool u a = x (omega (arith, k)) in
+    let l : length mid ≡ length pool = ap length m ∙ length-sets pool u a in
+    y (omega (arith, k, l, e)) ∙ rw (m, e) (sym (sets-append pool u a b))
 
 -- ---- what an operand's answer says
 
@@ -52,7 +57,7 @@ pub record OperandRead (g : Got Operand) (u : ℕ) (pool : List ℕ) (r : ReadOp
   pub is : g ≡ got val (r .next)
   pub value : r .operand ≡ operandAt u val
   pub used : r .used ≡ u + length (operandBytes val)
-  pub pooled : after ≡ sets pool u (operandBytes val)
+  pub pooled : Stored pool u (operandBytes val) after
 
 pub operand-read : (g : Got Operand) (u : ℕ) (pool : List ℕ) (r : ReadOperand) (after : List ℕ) → IsOperand g u r
     → Pooled operandBytes g u pool after → not (r .ok) ≡ false → OperandRead g u pool r after
@@ -136,7 +141,7 @@ module _ (s : List ℕ) (at used : ℕ) (pool : List ℕ) where
                 used;
           })
           × Pooled operandBytes (secondIf false .parse s at) used pool pool
-      go (got x q) h k = let z : used + 0 ≡ used = omega arith in rw (h, k, z) (refl, refl)
+      go (got x q) h k = let z : used + 0 ≡ used = omega arith in rw (h, k, z) (refl, λ _. refl)
       go (bad p) h k = rw (h, k) ((refl, refl), tt)
 
 abbrev Refused : ReadKind → ℕ → Type 0
@@ -191,7 +196,7 @@ module _ (s : List ℕ) (at used : ℕ) (pool : List ℕ) {n : Field} (en : n �
                 simp length-append (omega arith) in
                 rw (field-read (decimalP 7 32 s at) en xn, oa .is, ob .is, h) (
                   rw (k, eo, oa .value, ob .value, ob .used, oa .used, z),
-                  ob .pooled ∙ (rw (oa .pooled, oa .used) (sym (sets-append pool used (operandBytes va) (operandBytes vb)))),
+                  stored-both pool used (operandBytes va) (operandBytes vb) (oa .used) (oa .pooled) (ob .pooled),
                 )
             go (bad p) h k = rw (field-read (decimalP 7 32 s at) en xn, oa .is, ob .is, h) (k, tt)
 
@@ -241,6 +246,6 @@ module _ (s : List ℕ) (at used : ℕ) (pool : List ℕ) {n : Field} (en : n �
                 simp length-append (omega arith) in
                 rw (field-read (decimalP 5 32 s at) en xn, oa .is, ob .is, h) (
                   rw (k, eo, oa .value, ob .value, ob .used, oa .used, z),
-                  ob .pooled ∙ (rw (oa .pooled, oa .used) (sym (sets-append pool used (operandBytes va) (operandBytes vb)))),
+                  stored-both pool used (operandBytes va) (operandBytes vb) (oa .used) (oa .pooled) (ob .pooled),
                 )
             go (bad p) h k = rw (field-read (decimalP 5 32 s at) en xn, oa .is, ob .is, h) (k, tt)

@@ -5,3 +5,4 @@ pub mod Comparisons
 pub mod Chosen
 pub mod RuleLines
 pub mod RuleSections
+pub mod Examples

@@ -1,6 +1,6 @@
 -- The grammars of an operand and its parts, field by field, and the answers of their readers. Assumes nothing.
 use Prim.Native.Nat.{ℕ, _+_, _%_}
-use mathlib.Core.Path.{_≡_, refl}
+use mathlib.Core.Path.{_≡_, refl, _∙_}
 use mathlib.Core.Bool.{Bool, true, false, not}
 use mathlib.Core.List.{List, [], _∷_}
 use mathlib.Core.Option.{Option}
@@ -8,6 +8,7 @@ use native.Mathlib.Omega.{arith}
 use lib.Dec.{leb, eqb}
 use lib.Ieee.{Float, binary64, ofBits}
 use lib.ListN.{length, drop}
+use Rattle.memory.proofs.Laws.{all-fits}
 use Rattle.model.specs.declared.ConditionalOperand.{ConditionalOperand}
 use Rattle.model.specs.declared.SheetName.{SheetName}
 use Rattle.model.specs.Readings.{finite}
@@ -18,6 +19,7 @@ use Rattle.grammar.specs.Numbers.{decimalP, hex, pairsFrom}
 use Rattle.grammar.proofs.Parts.{word-exact}
 use Rattle.grammar.proofs.Decimals.{decimal-exact}
 use Rattle.fields.specs.declared.Field.{Field}
+use Rattle.fields.specs.declared.ReadText.{ReadText}
 use Rattle.fields.specs.Field.{fieldOf, wordOf, textOf, pooled}
 use Rattle.fields.specs.Room.{Room}
 use Rattle.fields.proofs.Laws.{field-read, field-none, word-none, word-read, word-byte}
@@ -46,7 +48,7 @@ module _ (s : List ℕ) (at used : ℕ) (pool : List ℕ) {d : Field} (ed : d �
           → Names (record { ok = e .ok; name = SheetName.This; next = e .next; used = used }) pool
       go (got y q) h k =
           let z : used + 0 ≡ used = omega arith in
-          rw (letter-got 45 s at ed x, word-byte 32 s (d .next), h, k, z) (refl, refl)
+          rw (letter-got 45 s at ed x, word-byte 32 s (d .next), h, k, z) (refl, λ _. refl)
       go (bad p) h k = rw (letter-got 45 s at ed x, word-byte 32 s (d .next), h, k) ((refl, refl), tt)
 
   module _ (xd : d .ok ≡ false) {t : Field} (et : t ≡ wordOf (byteP 116 s at)) where
@@ -54,29 +56,29 @@ module _ (s : List ℕ) (at used : ℕ) (pool : List ℕ) {d : Field} (ed : d �
     unfolding referenceName textField bytes
     name-none r after x y = rw (letter-bad 45 s at ed xd, word-byte 116 s at, word-none (byteP 116 s at) et x) (y, tt)
 
-    pub name-named : {f : Field} {after : List ℕ} → not (t .ok) ≡ false → f ≡ textOf (pairsFrom 32 (t .next) (drop (t .next) s))
+    pub name-named : {f : ReadText} {after : List ℕ} → not (t .ok) ≡ false
+        → f ≡ textOf (pairsFrom 32 (t .next) (drop (t .next) s)) used (length pool)
         → after ≡ pooled (pairsFrom 32 (t .next) (drop (t .next) s)) used pool
         → Names (record {
           ok = f .ok;
-          name = SheetName.Named (record { at = used; len = f .value });
+          name = SheetName.Named (record { at = used; len = f .length });
           next = f .next;
-          used = used + f
-              .value;
+          used = used + f .length;
         }) after
     unfolding referenceName textField bytes nameAt nameBytes
     name-named {f} {after} x ef ep = go (pairsFrom 32 (t .next) (drop (t .next) s)) refl ef ep
       where
-        go : (g : Got (List ℕ)) → pairsFrom 32 (t .next) (drop (t .next) s) ≡ g → f ≡ textOf g → after ≡ pooled g used pool
+        go : (g : Got (List ℕ)) → pairsFrom 32 (t .next) (drop (t .next) s) ≡ g → f ≡ textOf g used (length pool)
+            → after ≡ pooled g used pool
             → Names (record {
               ok = f .ok;
-              name = SheetName.Named
-                  (record { at = used; len = f .value });
+              name = SheetName.Named (record { at = used; len = f .length });
               next = f .next;
-              used = used + f .value;
+              used = used + f .length;
             }) after
         go (got bs q) h k p =
-            let z : 0 + length bs ≡ length bs = omega arith in
-            rw (letter-bad 45 s at ed xd, word-byte 116 s at, word-read (byteP 116 s at) et x, h, k, z) (refl, p)
+            rw (letter-bad 45 s at ed xd, word-byte 116 s at, word-read (byteP 116 s at) et x, h, k)
+            (refl, λ i. p ∙ all-fits 0 pool used bs i)
         go (bad p) h k y = rw (letter-bad 45 s at ed xd, word-byte 116 s at, word-read (byteP 116 s at) et x, h, k) ((refl, refl), tt)
 
 -- ---- references
@@ -199,7 +201,7 @@ module _ (s : List ℕ) (at used : ℕ) (pool : List ℕ) {n : Field} (en : n �
           → literalIf true b (record { ok = true; value = bits; next = q }) (n .next) used r → Operands r pool
       tested bits q h true k j =
           let z : used + 0 ≡ used = omega arith in
-          rw (letter-got 110 s at en x, h, k, z) (j, refl)
+          rw (letter-got 110 s at en x, h, k, z) (j, λ _. refl)
       tested bits q h false k j = rw (letter-got 110 s at en x, h, k) (j, tt)
 
       go : (g : Got ℕ) → ended (hex 16) (32 ∷ []) .parse s (n .next) ≡ g → f ≡ fieldOf g → Operands r pool
@@ -229,5 +231,5 @@ module _ (s : List ℕ) (at used : ℕ) (pool : List ℕ) {n : Field} (en : n �
             → Operands (record { ok = u .ok; operand = ConditionalOperand.Unread; next = u .next; used = used }) pool
         go (got y q) h k =
             let z : used + 0 ≡ used = omega arith in
-            rw (letter-bad 110 s at en xn, letter-bad 114 s at ec x, h, k, z) (refl, refl)
+            rw (letter-bad 110 s at en xn, letter-bad 114 s at ec x, h, k, z) (refl, λ _. refl)
         go (bad q) h k = rw (letter-bad 110 s at en xn, letter-bad 114 s at ec x, h, k) ((refl, refl), tt)

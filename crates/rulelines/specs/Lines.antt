@@ -1,6 +1,6 @@
 -- What the readers of rule lines answer for each result of the grammar. Where none was read, they say so and at which place.
 -- Assumes nothing.
-use Prim.Native.Nat.{ℕ, _+_}
+use Prim.Native.Nat.{ℕ, _+_, _≤_}
 use mathlib.Core.Bool.{Bool, true, false}
 use mathlib.Core.List.{List}
 use mathlib.Core.Option.{Option}
@@ -59,7 +59,11 @@ literalIf false b f at u r = (r .ok ≡ false) × (r .next ≡ f .next)
 abbrev pub IsLiteral : Bool → Field → ℕ → ℕ → ReadOperand → Type 0
 IsLiteral finite f at u r = literalIf (f .ok) finite f at u r
 
+-- a pool with bs in it from u on, if they fit
+abbrev pub Stored : List ℕ → ℕ → List ℕ → List ℕ → Type 0
+Stored pool u bs after = u + length bs ≤ length pool → after ≡ sets pool u bs
+
 -- the pool after it, where one was read
 abbrev pub Pooled : {A : Type 0} → (A → List ℕ) → Got A → ℕ → List ℕ → List ℕ → Type 0
-Pooled texts (got a q) u pool after = after ≡ sets pool u (texts a)
+Pooled texts (got a q) u pool after = Stored pool u (texts a) after
 Pooled texts (bad p) u pool after = Unit {0}

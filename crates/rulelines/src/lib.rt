@@ -17,20 +17,20 @@ ghost use Prim.Native.Nat.{_≤_};
 ghost use mathlib.Core.Bool.{false, _&&_};
 ghost use mathlib.Core.Path.{_≡_};
 ghost use lib.Dec.{leb};
-ghost use lib.ListN.{replicate};
+ghost use lib.ListN.{length, replicate};
 ghost use Rattle.grammar.specs.Parts.{timesP};
 ghost use Rattle.fields.specs.Room.{Room, roomy};
 ghost use Rattle.jobtext.specs.Rules.{ruleLine};
-ghost use Rattle.jobtext.specs.Laid.{blankRule};
+ghost use Rattle.jobtext.specs.Laid.{blankRule, ruleBytes};
 ghost use Rattle.rulelines.specs.RuleLines.{IsRule, rest, behindRange, ruleBytesOf};
-ghost use Rattle.rulelines.specs.RuleSections.{rulesLeft, AreRules, rulesAt, noRules, sectionOf, poolAfter};
+ghost use Rattle.rulelines.specs.RuleSections.{noSection, rulesLeft, answerOf, rulesAt, sectionOf, poolAfter};
 ghost use Rattle.rulelines.specs.Lines.{Pooled};
 
-pub struct ReadRule {
-    pub ok: bool,
-    pub rule: Rule,
-    pub next: usize,
-    pub used: usize,
+struct ReadRule {
+    ok: bool,
+    rule: Rule,
+    next: usize,
+    used: usize,
 }
 
 fn blank_rule() -> Rule
@@ -137,9 +137,11 @@ fn read_rule(s: &[u8], at: usize, pool: &mut [u8], used: usize) -> ReadRule
 
 // ---- the section of rules
 
-// The records, the place after the lines, and up to where the pool is then used; or the place at which they cannot be read on.
+// The records, the place after the lines, up to where the pool is then used, and whether it is so long; or the place at which the lines
+// cannot be read on.
 pub struct RuleSection {
     pub ok: bool,
+    pub fits: bool,
     pub next: usize,
     pub used: usize,
     pub rules: Rules,
@@ -147,8 +149,9 @@ pub struct RuleSection {
 
 fn read_rule_lines(s: &[u8], at: usize, number: usize, pool: &mut [u8], used: usize) -> RuleSection
     requires { ⌜ Room (now s) at used × (number ≤ 64) ⌝ }
-    ensures { λ r. ⌜ AreRules (rulesLeft 0 used (timesP number (ruleLine .parse) (now (s .entry)) at) (replicate 64 blankRule) (now
-        (pool .entry))) number r (now (pool .exit)) ⌝ }
+    ensures { λ r. ⌜ r ≡ answerOf (rulesLeft 0 used (timesP number (ruleLine .parse) (now (s .entry)) at) (replicate 64 blankRule))
+        (length (now (pool .entry))) number ⌝ }
+    ensures { λ _. ⌜ Pooled ruleBytes (timesP number (ruleLine .parse) (now (s .entry)) at) used (now (pool .entry)) (now (pool .exit)) ⌝ }
 {
     let blank = blank_rule();
     let mut records = [blank; 64];
@@ -158,13 +161,7 @@ fn read_rule_lines(s: &[u8], at: usize, number: usize, pool: &mut [u8], used: us
     while i < number {
         let r = read_rule(s, q, pool, u);
         if !r.ok {
-            let rules = Rules { records, number: 0 };
-            return RuleSection {
-                ok: false,
-                next: r.next,
-                used: 0,
-                rules,
-            };
+            return no_rules(r.next);
         }
         let rule = r.rule;
         records[i] = rule;
@@ -175,6 +172,7 @@ fn read_rule_lines(s: &[u8], at: usize, number: usize, pool: &mut [u8], used: us
     let rules = Rules { records, number };
     RuleSection {
         ok: true,
+        fits: u <= pool.len(),
         next: q,
         used: u,
         rules,
@@ -188,23 +186,25 @@ fn has_room(s: &[u8], at: usize, number: usize, used: usize) -> bool
 }
 
 pub fn no_rules(next: usize) -> RuleSection
-    ensures { λ r. ⌜ r ≡ record { ok = false; next = next; used = 0; rules = noRules } ⌝ }
+    ensures { λ r. ⌜ r ≡ noSection next ⌝ }
 {
     let blank = blank_rule();
     let records = [blank; 64];
     let rules = Rules { records, number: 0 };
     RuleSection {
         ok: false,
+        fits: false,
         next,
         used: 0,
         rules,
     }
 }
 
-// Lines of rules, with the names of their references into the pool from `used` on. Where a line is malformed, or there are more than
-// 64, or the text is longer than 65,536 bytes or `used` past `at`, no rule is left and the pool becomes 0.
+// Lines of rules, with the names of their references into the pool from `used` on; where they do not fit, the pool becomes 0. Where a
+// line is malformed, or there are more than 64, or the text is longer than 65,536 bytes or `used` past `at`, no rule is left and the
+// pool becomes 0.
 pub fn read_rules(s: &[u8], at: usize, number: usize, pool: &mut [u8], used: usize) -> RuleSection
-    ensures { λ r. ⌜ r ≡ sectionOf used (rulesAt (now (s .entry)) at number used) ⌝ }
+    ensures { λ r. ⌜ r ≡ sectionOf used (length (now (pool .entry))) (rulesAt (now (s .entry)) at number used) ⌝ }
     ensures { λ _. ⌜ now (pool .exit) ≡ poolAfter used (rulesAt (now (s .entry)) at number used) (now (pool .entry)) ⌝ }
 {
     if !has_room(s, at, number, used) {
@@ -212,9 +212,8 @@ pub fn read_rules(s: &[u8], at: usize, number: usize, pool: &mut [u8], used: usi
         return no_rules(at);
     }
     let r = read_rule_lines(s, at, number, pool, used);
-    if r.ok {
-        return r;
+    if !r.fits {
+        lent::clear_u8(pool);
     }
-    lent::clear_u8(pool);
-    no_rules(r.next)
+    r
 }

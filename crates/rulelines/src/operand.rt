@@ -55,13 +55,13 @@ fn read_name(s: &[u8], at: usize, pool: &mut [u8], used: usize) -> ReadName
     let f = fields::text(s, t.next, b' ', pool, used);
     let span = Span {
         at: used as u32,
-        len: f.value as u32,
+        len: f.length as u32,
     };
     ReadName {
         ok: f.ok,
         name: SheetName::Named(span),
         next: f.next,
-        used: used + f.value as usize,
+        used: used + f.length as usize,
     }
 }
 

@@ -1,7 +1,7 @@
 -- `rulelines::read_rule_lines` meets its contract. The loop's invariant: what the lines from here on leave is what all of them leave from
 -- the start (`Rest`). A line that was read is stored and passes on to the next. The measure is the lines left. Assumes nothing.
 use Prim.Native.Nat.{_-_, _≤_}
-use mathlib.Core.Path.{refl, _∙_}
+use mathlib.Core.Path.{_∙_}
 use native.Mathlib.Omega.{arith}
 use lib.ListN.{replicate}
 use Rattle.jobtext.specs.Laid.{blankRule}
@@ -26,14 +26,17 @@ loop-holds c = (rw (c .blank-rule .ensures) (rest-begun _ _ _ _ _ _ (c .before .
 read-rule-requires : tie.Need-read-rule-requires Inv-loop μ-loop
 read-rule-requires c κs = c .before .before .loop .inv .0 .room
 
+no-rules-requires : tie.Need-no-rules-requires Inv-loop μ-loop
+no-rules-requires c κs = search needs
+
 same-length : tie.Need-same-length Inv-loop μ-loop
-same-length c = c .before .before .before .before .read-rule .kept .1 .1 .0 ∙ c .before .before .before .before .before .before .before
-    .loop .inv .0 .deep
+same-length c = c .before .before .before .before .before .read-rule .kept .1 .1 .0 ∙ c .before .before .before .before .before .before
+    .before .before .loop .inv .0 .deep
 
 returns : tie.Need-returns Inv-loop μ-loop
-returns c = rest-stopped (c .before .before .before .before .before .before .before .loop .inv .0)
-    (c .before .before .before .before .read-rule .result) _ _ (omega arith) (c .if1 .taken)
-    (c .before .before .before .before .read-rule .ensures .0) (refl, refl)
+returns c = rest-stopped (c .before .before .before .before .before .before .before .before .loop .inv .0)
+    (c .before .before .before .before .before .read-rule .result) _ _ (omega arith) (c .before .if1 .taken)
+    (c .before .before .before .before .before .read-rule .ensures .0) (c .no-rules .ensures)
 
 mul-records : tie.Need-mul-records Inv-loop μ-loop
 mul-records c = omega (arith, c .before .before .before .before .before .before .before .before .loop .inv .1)
@@ -52,7 +55,8 @@ loop-again c = (
   rest-next (c .before .before .before .before .before .before .before .before .loop .inv .0)
       (c .before .before .before .before .before .read-rule .result) _ (omega arith) (c .before .if1 .left)
       (c .before .before .before .before .before .read-rule .ensures .0)
-      (c .before .before .before .before .before .read-rule .ensures .1),
+      (c .before .before .before .before .before .read-rule .ensures .1)
+      (c .before .before .before .before .before .read-rule .kept .1 .1 .0),
   c .before .before .before .before .before .before .before .before
       .loop .inv .1,
 )
@@ -72,6 +76,7 @@ read-rule-lines-spec =
     blank-rule-requires
     loop-holds
     read-rule-requires
+    no-rules-requires
     same-length
     returns
     mul-records

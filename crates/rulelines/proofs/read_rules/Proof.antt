@@ -2,7 +2,7 @@
 use mathlib.Core.Path.{ap, _∙_}
 use Prim.Native.Nat.{ℕ}
 use lib.ListN.{replicate}
-use Rattle.rulelines.proofs.RuleSections.{no-room, lines-room, lines-read, lines-refused}
+use Rattle.rulelines.proofs.RuleSections.{no-room, lines-room, lines-read, lines-cleared}
 use borrow.Author.Needs.{needs}
 use Rattle.rulelines.proofs.read_rules.Statement.{statement}
 use Rattle.rulelines.proofs.read_rules.Tie as tie
@@ -20,37 +20,29 @@ same-length : tie.Need-same-length
 same-length c = c .before .before .before .clear-u8 .kept .0
 
 returns : tie.Need-returns
-returns c = rw (c .no-rules .ensures) (no-room _ _ _ _ _ _ (c .before .before .before .before .before .before .has-room .ensures) (c
-    .before .before .before .before .before .if1 .taken) (c .before .before .before .clear-u8 .ensures))
+returns c = no-room _ _ _ _ _ (c .before .before .before .before .before .before .has-room .ensures)
+    (c .before .before .before .before .before .if1 .taken) (c .before .before .before .clear-u8 .ensures) (c .no-rules .ensures)
 
 read-rule-lines-requires : tie.Need-read-rule-lines-requires
 read-rule-lines-requires c κs = lines-room _ _ _ _ (c .before .before .has-room .ensures) (c .before .if1 .left)
 
-same-length-2 : tie.Need-same-length-2
-same-length-2 c = c .before .before .before .read-rule-lines .kept .1 .1 .1 .0
-
-returns-2 : tie.Need-returns-2
-returns-2 c = lines-read _ _ _ _ _ (c .before .before .before .before .before .before .has-room .ensures)
-    (c .before .before .before .before .before .if1 .left) _ _ (c .before .before .before .read-rule-lines .ensures) (c .if2 .taken)
-
 clear-u8-requires-2 : tie.Need-clear-u8-requires-2
 clear-u8-requires-2 c κs = search needs
 
-no-rules-requires-2 : tie.Need-no-rules-requires-2
-no-rules-requires-2 c κs = search needs
+same-length-2 : tie.Need-same-length-2
+same-length-2 c = c .before .before .clear-u82 .kept .0 ∙ c .before .before .before .before .before .before .before .before .read-rule-lines .kept .1 .1 .1 .0
+
+returns-2 : tie.Need-returns-2
+returns-2 c = lines-cleared _ _ _ _ _ (c .before .before .before .before .before .before .before .before .before .before .before .has-room .ensures) (c .before .before .before .before .before .before .before .before .before .before .if1 .left)
+    (c .before .before .before .before .before .before .before .before .read-rule-lines .ensures .0) (c .before .before .clear-u82 .ensures ∙ ap (λ (n : ℕ). replicate n 0)
+    (c .before .before .before .before .before .before .before .before .read-rule-lines .kept .1 .1 .1 .0)) (c .before .before .before .before .if2 .taken)
 
 same-length-3 : tie.Need-same-length-3
-same-length-3 c = c .before .before .before .clear-u82 .kept .0 ∙ c .before .before .before .before .before .before .before .before
-    .read-rule-lines .kept .1 .1 .1 .0
+same-length-3 c = c .before .before .before .before .read-rule-lines .kept .1 .1 .1 .0
 
 returns-3 : tie.Need-returns-3
-returns-3 c = rw (c .no-rules2 .ensures) (lines-refused _ _ _ _ _ (c .before .before .before .before .before .before .before .before
-    .before .before .before .has-room .ensures) (c .before .before .before .before .before .before .before .before .before .before .if1
-    .left) (c .before .before .before .before .before .before .before .before .read-rule-lines .result)
-    (c .before .before .before .before .before .before .before .before .read-rule-lines .last .1 .1 .1 .0) _
-    (c .before .before .before .before .before .before .before .before .read-rule-lines .ensures)
-    (c .before .before .before .before .before .if2 .left) (c .before .before .before .clear-u82 .ensures ∙ ap (λ (n : ℕ). replicate n
-    0) (c .before .before .before .before .before .before .before .before .read-rule-lines .kept .1 .1 .1 .0)))
+returns-3 c = lines-read _ _ _ _ _ (c .before .before .before .before .before .before .before .has-room .ensures) (c .before .before .before .before .before .before .if1 .left)
+    (c .before .before .before .before .read-rule-lines .ensures .0) _ (c .before .before .before .before .read-rule-lines .ensures .1) (c .if2 .left)
 
 pub read-rules-spec : {M : Type 1} → statement M
 read-rules-spec =
@@ -62,9 +54,8 @@ read-rules-spec =
     same-length
     returns
     read-rule-lines-requires
+    clear-u8-requires-2
     same-length-2
     returns-2
-    clear-u8-requires-2
-    no-rules-requires-2
     same-length-3
     returns-3)

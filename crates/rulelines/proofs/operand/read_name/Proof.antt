@@ -33,7 +33,7 @@ cast-t15 c = omega (arith, room-used (c .before .before .before .before .before 
 cast-t16 : tie.Need-cast-t16
 cast-t16 c = omega (
   arith,
-  text-small _ _ _ (c .before .before .before .text .ensures .0),
+  text-small _ _ _ _ _ (c .before .before .before .text .ensures .0),
   c .before .before .before .before .before
       .before .before .before .before .before .before .before .pre .short,
 )
@@ -41,7 +41,7 @@ cast-t16 c = omega (
 add-t19 : tie.Need-add-t19
 add-t19 c = omega (
   arith,
-  text-small _ _ _ (c .before .before .before .text .ensures .0),
+  text-small _ _ _ _ _ (c .before .before .before .text .ensures .0),
   c .before .before .before .before .before
       .before .before .before .before .before .before .before .pre .short,
   room-used
