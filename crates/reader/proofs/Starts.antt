@@ -7,8 +7,8 @@ use mathlib.Core.List.{List}
 use native.Mathlib.Omega.{arith}
 use lib.Dec.{ltb}
 use lib.ListN.{length, length-append}
-use lib.Seq.{sets}
 use borrow.Author.Tests.{ltb-false}
+use Rattle.memory.specs.Memory.{pageOf}
 use Rattle.grammar.specs.Gram.{Got, lineOf}
 use Rattle.grammar.specs.Gram.Got.{got, bad}
 use Rattle.fields.specs.Room.{Room}
@@ -51,12 +51,12 @@ module _ (s pool : List ℕ) where
   pub too-long : {r : Start} (after : List ℕ) → ltb maxText (length s) ≡ true → r ≡ noStart 10 0 0 → Says r after
   too-long after x e = rw x (e, tt)
 
-  module _ (short : ltb maxText (length s) ≡ false) {h : ReadHead} {after : List ℕ} (eh : h ≡ headOf (head .parse s 0))
-      (ep : after ≡ headPooled (head .parse s 0) pool) where
+  module _ (short : ltb maxText (length s) ≡ false) {h : ReadHead} {after : List ℕ} (eh : h ≡ headOf (head .parse s 0) (length pool))
+      (ep : after ≡ headPooled (head .parse s 0) (length pool)) where
     pub no-head : {r : Start} {line : ℕ} → not (h .ok) ≡ true → line ≡ lineOf s (h .next) → r ≡ noStart 11 line 0 → Says r after
     no-head {r} {line} x l e = rw short (go (head .parse s 0) refl eh ep)
       where
-        go : (g : Got Head) → head .parse s 0 ≡ g → h ≡ headOf g → after ≡ headPooled g pool → SaysIf false r after
+        go : (g : Got Head) → head .parse s 0 ≡ g → h ≡ headOf g (length pool) → after ≡ headPooled g (length pool) → SaysIf false r after
         go (got y q) f i j = clash true false refl refl (sym x ∙ ap (λ (k : ReadHead). not (k .ok)) i)
         go (bad p) f i j = rw f (e ∙ ap (λ (n : ℕ). noStart 11 n 0) (l ∙ ap (λ (k : ReadHead). lineOf s (k .next)) i), tt)
 
@@ -65,7 +65,7 @@ module _ (s pool : List ℕ) where
       unfolding over
       too-many {r} x e = rw short (go (head .parse s 0) refl eh ep)
         where
-          go : (g : Got Head) → head .parse s 0 ≡ g → h ≡ headOf g → after ≡ headPooled g pool → SaysIf false r after
+          go : (g : Got Head) → head .parse s 0 ≡ g → h ≡ headOf g (length pool) → after ≡ headPooled g (length pool) → SaysIf false r after
           go (got y q) f i j =
               let z : over y ≡ true =
               sym (ap (λ (k : ReadHead). ltb 1024 (k .cells) || ltb 1024 (k .regions) || ltb 64 (k .rules)) i) ∙ (sym eo ∙ x) in
@@ -88,7 +88,7 @@ module _ (s pool : List ℕ) where
       unfolding over
       head-read {r} x e = rw short (go (head .parse s 0) refl eh ep)
         where
-          go : (g : Got Head) → head .parse s 0 ≡ g → h ≡ headOf g → after ≡ headPooled g pool → SaysIf false r after
+          go : (g : Got Head) → head .parse s 0 ≡ g → h ≡ headOf g (length pool) → after ≡ headPooled g (length pool) → SaysIf false r after
           go (got y q) f i j =
               let z : over y ≡ false =
               sym (ap (λ (k : ReadHead). ltb 1024 (k .cells) || ltb 1024 (k .regions) || ltb 64 (k .rules)) i) ∙ (sym eo ∙ x) in
@@ -105,13 +105,13 @@ pub record Begun (s : List ℕ) (t : Start) (pool after : List ℕ) : Type 0 whe
   pub headed-as : head .parse s 0 ≡ got first place
   pub counted : over first ≡ false
   pub is : t ≡ started first place
-  pub named : after ≡ sets pool 0 (first .name)
+  pub named : after ≡ pageOf true (length pool) (first .name)
 
 pub begun : (s pool : List ℕ) {t : Start} (after : List ℕ) → t ≡ startIf (ltb maxText (length s)) s
     → Named (ltb maxText (length s)) (head .parse s 0) pool after → t .number ≡ 0 → Begun s t pool after
 begun s pool {t} after e n x = go (ltb maxText (length s)) refl e n
   where
-    counts : (y : Head) (q : ℕ) → ltb maxText (length s) ≡ false → head .parse s 0 ≡ got y q → after ≡ sets pool 0 (y .name)
+    counts : (y : Head) (q : ℕ) → ltb maxText (length s) ≡ false → head .parse s 0 ≡ got y q → after ≡ pageOf true (length pool) (y .name)
         → (o : Bool) → over y ≡ o → t ≡ cond o (noStart 2 0 (y .start)) (started y q) → Begun s t pool after
     counts y q l f j true u e = let z : _≡_ {A = ℕ} 2 0 = sym (ap (λ (k : Start). k .number) e) ∙ x in absurd (omega arith)
     counts y q l f j false u e = record { short = l; first = y; place = q; headed-as = f; counted = u; is = e; named = j }

@@ -3,6 +3,7 @@ use Prim.Native.Nat.{ℕ, _≤_}
 use mathlib.Core.Path.{_≡_, refl, sym, ap, _∙_}
 use mathlib.Core.Bool.{true, false, not}
 use mathlib.Core.List.{List, [], _∷_}
+use lib.ListN.{length}
 use borrow.Author.Tests.{le-leb, not-true, not-false}
 use Rattle.model.specs.declared.CellCoordinate.{CellCoordinate}
 use Rattle.grammar.specs.Gram.{Got}
@@ -22,7 +23,7 @@ use Rattle.regionlines.specs.declared.RegionSection.{RegionSection}
 use Rattle.regionlines.specs.Regions.{rowsAfter, colsAfter}
 use Rattle.regionlines.specs.Regions.{sectionOf as regionsOf}
 use Rattle.rulelines.specs.declared.RuleSection.{RuleSection}
-use Rattle.rulelines.specs.RuleSections.{rulesAt, noRules, poolAfter}
+use Rattle.rulelines.specs.RuleSections.{noSection, rulesAt, poolAfter}
 use Rattle.rulelines.specs.RuleSections.{sectionOf as rulesOf}
 use Rattle.reader.specs.Bodies.{tailT, tail, IsTail}
 
@@ -36,14 +37,12 @@ ruleNames =
     112 ∷ 114 ∷ 105 ∷ 111 ∷ 114 ∷ 105 ∷ 116 ∷ 121 ∷ 32 ∷ 115 ∷ 116 ∷ 111 ∷ 112 ∷ 32 ∷ 105 ∷ 109 ∷ 112 ∷ 111 ∷ 114 ∷ 116 ∷ 101 ∷ 100 ∷
     32 ∷ 114 ∷ 117 ∷ 108 ∷ 101 ∷ 32 ∷ 112 ∷ 49 ∷ 32 ∷ 112 ∷ 50 ∷ 32 ∷ 112 ∷ 51 ∷ 32 ∷ 112 ∷ 52 ∷ 10 ∷ []
 
-abbrev pub noSection : ℕ → RuleSection
-noSection p = record { ok = false; next = p; used = 0; rules = noRules }
-
 -- ---- what the answer of `read_regions` says
 
-regions-bad : {b : RegionSection} (g : Got (List CellCoordinate)) → b ≡ regionsOf g → b .ok ≡ false → g ≡ bad (b .next)
-regions-bad (got rs q) e x = clash true false refl refl (sym (ap (λ (k : RegionSection). k .ok) e) ∙ x)
-regions-bad (bad p) e x = rw e
+regions-bad : {b : RegionSection} (g : Got (List CellCoordinate)) (rows cols : List ℕ) → b ≡ regionsOf g rows cols → b .ok ≡ false
+    → g ≡ bad (b .next)
+regions-bad (got rs q) rows cols e x = clash true false refl refl (sym (ap (λ (k : RegionSection). k .ok) e) ∙ x)
+regions-bad (bad p) rows cols e x = rw e
 
 -- ---- the rules, where there is room
 
@@ -65,13 +64,14 @@ module _ (s : List ℕ) (at regions rules used : ℕ) (rows cols pool : List ℕ
     unfolding tail bytes
     no-region-names rows′ cols′ pool′ x y = refused (a .next) rows′ cols′ pool′ (rw (word-none (wordP regionNames s at) ea x)) y
 
-    module _ (xa : not (a .ok) ≡ false) {b : RegionSection} (eb : b ≡ regionsOf (timesP regions (regionLine .parse) s (a .next))) where
+    module _ (xa : not (a .ok) ≡ false) {b : RegionSection}
+        (eb : b ≡ regionsOf (timesP regions (regionLine .parse) s (a .next)) rows cols) where
       pub no-regions : {r : RuleSection} (rows′ cols′ pool′ : List ℕ) → not (b .ok) ≡ true → r ≡ noSection (b .next)
           → Says (tail regions rules .parse s at) r rows′ cols′ pool′
       unfolding tail bytes
       no-regions rows′ cols′ pool′ x y = refused (b .next) rows′ cols′ pool′ (rw (
         word-read (wordP regionNames s at) ea xa,
-        regions-bad (timesP regions (regionLine .parse) s (a .next)) eb (not-true (b .ok) x),
+        regions-bad (timesP regions (regionLine .parse) s (a .next)) rows cols eb (not-true (b .ok) x),
       )) y
 
       module _ (xb : not (b .ok) ≡ false) {w : Field} (ew : w ≡ wordOf (wordP ruleNames s (b .next))) where
@@ -80,7 +80,7 @@ module _ (s : List ℕ) (at regions rules used : ℕ) (rows cols pool : List ℕ
         unfolding tail bytes
         no-rule-names {r} rows′ cols′ pool′ x y = go (timesP regions (regionLine .parse) s (a .next)) refl eb
           where
-            go : (g : Got (List CellCoordinate)) → timesP regions (regionLine .parse) s (a .next) ≡ g → b ≡ regionsOf g
+            go : (g : Got (List CellCoordinate)) → timesP regions (regionLine .parse) s (a .next) ≡ g → b ≡ regionsOf g rows cols
                 → Says (tail regions rules .parse s at) r rows′ cols′ pool′
             go (got rs q) f e =
                 let n : wordP ruleNames s q ≡ bad (w .next) =
@@ -90,31 +90,38 @@ module _ (s : List ℕ) (at regions rules used : ℕ) (rows cols pool : List ℕ
 
         module _ (xw : not (w .ok) ≡ false) (room : Room s at used) (small : rules ≤ 64) where
           pub tail-answer : {r : RuleSection} {rows′ cols′ pool′ : List ℕ}
-              → rows′ ≡ rowsAfter (timesP regions (regionLine .parse) s (a .next)) rows
-              → cols′ ≡ colsAfter (timesP regions (regionLine .parse) s (a .next)) cols
-              → r ≡ rulesOf used (rulesAt s (w .next) rules used)
+              → rows′ ≡ rowsAfter (timesP regions (regionLine .parse) s (a .next)) rows cols
+              → cols′ ≡ colsAfter (timesP regions (regionLine .parse) s (a .next)) rows cols
+              → r ≡ rulesOf used (length pool) (rulesAt s (w .next) rules used)
               → pool′ ≡ poolAfter used (rulesAt s (w .next) rules used) pool
               → Says (tail regions rules .parse s at) r rows′ cols′ pool′
           unfolding tail bytes
           tail-answer {r} {rows′} {cols′} {pool′} er ec es ep = go (timesP regions (regionLine .parse) s (a .next)) refl eb er ec
             where
               last : (rs : List CellCoordinate) (q : ℕ) → timesP regions (regionLine .parse) s (a .next) ≡ got rs q → b .next ≡ q
-                  → rows′ ≡ rowsAfter (got rs q) rows → cols′ ≡ colsAfter (got rs q) cols
-                  → (g : Got (List RuleLine)) → timesP rules (ruleLine .parse) s (w .next) ≡ g → r ≡ rulesOf used g
+                  → rows′ ≡ rowsAfter (got rs q) rows cols → cols′ ≡ colsAfter (got rs q) rows cols
+                  → (g : Got (List RuleLine)) → timesP rules (ruleLine .parse) s (w .next) ≡ g → r ≡ rulesOf used (length pool) g
                   → pool′ ≡ poolAfter used g pool
                   → Says (tail regions rules .parse s at) r rows′ cols′ pool′
               last rs q f k i j (got ls e) n x y =
                   let m : wordP ruleNames s q ≡ got tt (w .next) =
                   ap (λ (p : ℕ). wordP ruleNames s p) (sym k) ∙ word-read (wordP ruleNames s (b .next)) ew xw in
-                  rw (word-read (wordP regionNames s at) ea xa, f, m, n) (x, i, j, y)
+                  rw (word-read (wordP regionNames s at) ea xa, f, m, n) (
+                    x,
+                    λ o p.
+                        let u = le-leb (length rs) (length rows) o in
+                        let v = le-leb (length rs) (length cols) p in
+                        (rw (u, v) at i, rw (u, v) at j),
+                    y,
+                  )
               last rs q f k i j (bad e) n x y =
                   let m : wordP ruleNames s q ≡ got tt (w .next) =
                   ap (λ (p : ℕ). wordP ruleNames s p) (sym k) ∙ word-read (wordP ruleNames s (b .next)) ew xw in
                   rw (word-read (wordP regionNames s at) ea xa, f, m, n)
                   (ap (λ (k : RuleSection). k .ok) x, ap (λ (k : RuleSection). k .next) x)
 
-              go : (g : Got (List CellCoordinate)) → timesP regions (regionLine .parse) s (a .next) ≡ g → b ≡ regionsOf g
-                  → rows′ ≡ rowsAfter g rows → cols′ ≡ colsAfter g cols
+              go : (g : Got (List CellCoordinate)) → timesP regions (regionLine .parse) s (a .next) ≡ g → b ≡ regionsOf g rows cols
+                  → rows′ ≡ rowsAfter g rows cols → cols′ ≡ colsAfter g rows cols
                   → Says (tail regions rules .parse s at) r rows′ cols′ pool′
               go (got rs q) f e i j =
                   let k : b .next ≡ q = ap (λ (x : RegionSection). x .next) e in
@@ -125,6 +132,6 @@ module _ (s : List ℕ) (at regions rules used : ℕ) (rows cols pool : List ℕ
                   (room-on (word-exact regionNames) tt (a .next) room (word-read (wordP regionNames s at) ea xa)) f′)
                   (word-read (wordP ruleNames s (b .next)) ew xw) in
                   let z = rules-here s (w .next) rules used here small in
-                  last rs q f k i j (timesP rules (ruleLine .parse) s (w .next)) refl (es ∙ ap (rulesOf used) z)
+                  last rs q f k i j (timesP rules (ruleLine .parse) s (w .next)) refl (es ∙ ap (rulesOf used (length pool)) z)
                   (ep ∙ ap (λ (g : Got (List RuleLine)). poolAfter used g pool) z)
               go (bad p) f e i j = clash true false refl refl (sym (not-false (b .ok) xb) ∙ ap (λ (k : RegionSection). k .ok) e)

@@ -1,13 +1,14 @@
 -- What the readers inside a job text answer for each result of the grammar: its two first lines with the tests on length and counts, and
 -- the sections behind them. Assumes nothing.
-use Prim.Native.Nat.{ℕ, _+_}
+use Prim.Native.Nat.{ℕ, _+_, _≤_}
 use mathlib.Core.Bool.{Bool, true, false, cond, _&&_}
 use mathlib.Core.List.{List}
 use mathlib.Core.Path.{_≡_}
-use lib.Dec.{eqb}
+use lib.Dec.{eqb, leb}
 use lib.ListN.{length}
-use lib.Seq.{sets}
+use Rattle.memory.specs.Memory.{allOrZeros, pageOf}
 use Rattle.model.specs.declared.CellCoordinate.{CellCoordinate}
+use Rattle.model.specs.Sheet.{CellColumns}
 use Rattle.grammar.specs.Gram.{Got, Gram, lineOf}
 use Rattle.grammar.specs.Gram.Got.{got, bad}
 use Rattle.grammar.specs.Parts.{bytes, behind, both, times}
@@ -15,13 +16,14 @@ use Rattle.jobtext.specs.Written.{RuleLine}
 use Rattle.jobtext.specs.Rules.{ruleLine}
 use Rattle.jobtext.specs.Text.{Head, bodyT, cellLine, regionLine, head}
 use Rattle.jobtext.specs.Read.{ReadResult, over}
-use Rattle.jobtext.specs.Laid.{cellBytes, columnsFrom, ruleBytes, recordsFrom, laid}
-use Rattle.celllines.specs.Columns.{overlaid}
+use Rattle.jobtext.specs.Laid.{cellBytes, columnsFrom, ruleBytes, laid}
+use Rattle.celllines.specs.Columns.{pages}
 use Rattle.regionlines.specs.Regions.{rowsOf, colsOf}
 use Rattle.rulelines.specs.declared.RuleSection.{RuleSection}
+use Rattle.rulelines.specs.RuleSections.{sectionOf as rulesOf}
 use Rattle.reader.specs.declared.Start.{Start}
 use Rattle.reader.specs.declared.ReadJob.{ReadJob}
-use Rattle.reader.specs.Held.{Held, held, refusedAs, laidOver}
+use Rattle.reader.specs.Held.{Held, held, refusedAs, fitsIn, laidIn}
 
 -- ---- behind the cells
 
@@ -35,13 +37,13 @@ tail regions rules =
     (both (times regions regionLine)
     (behind (bytes "top left bottom right priority stop imported rule p1 p2 p3 p4\n") (times rules ruleLine)))
 
--- they are stored over columns that held `rows` and `cols`, with the names from `used` on in a pool
+-- the regions are alone in columns that are long enough; the rules' names go to a pool from `used` on
 abbrev pub IsTail : Got tailT → ℕ → List ℕ → List ℕ → List ℕ → RuleSection → List ℕ → List ℕ → List ℕ → Type 0
 IsTail (got x q) used rows cols pool r rows′ cols′ pool′ =
-    (r ≡ record { ok = true; next = q; used = used + length (ruleBytes (x .1)); rules = recordsFrom used (x .1) })
-    × (rows′ ≡ sets rows 0 (rowsOf (x .0)))
-    × (cols′ ≡ sets cols 0 (colsOf (x .0)))
-    × (pool′ ≡ sets pool used (ruleBytes (x .1)))
+    (r ≡ rulesOf used (length pool) (got (x .1) q))
+    × (length (x .0) ≤ length rows → length (x .0) ≤ length cols
+    → (rows′ ≡ pageOf true (length rows) (rowsOf (x .0))) × (cols′ ≡ pageOf true (length cols) (colsOf (x .0))))
+    × (pool′ ≡ allOrZeros true pool used (ruleBytes (x .1)))
 IsTail (bad p) used rows cols pool r rows′ cols′ pool′ = (r .ok ≡ false) × (r .next ≡ p)
 
 -- ---- all sections
@@ -50,12 +52,35 @@ IsTail (bad p) used rows cols pool r rows′ cols′ pool′ = (r .ok ≡ false)
 unfoldable pub bodyOf : ℕ → ℕ → ℕ → Gram bodyT
 bodyOf cells regions rules = behind (bytes "row col wraps value\n") (both (times cells cellLine) (tail regions rules))
 
+-- numbers of cells and regions, against the lengths of seven columns and of two
+abbrev pub columnsFit : ℕ → ℕ → ℕ → ℕ → ℕ → ℕ → ℕ → ℕ → ℕ → ℕ → ℕ → Bool
+columnsFit cells regions rows cols kinds wraps nums ats lens regionRows regionCols =
+    leb cells rows
+    && leb cells cols
+    && leb cells kinds
+    && leb cells wraps
+    && leb cells nums
+    && leb cells ats
+    && leb cells lens
+    && leb regions regionRows
+    && leb regions regionCols
+
+-- against what is lent
+abbrev pub columnsIn : ℕ → ℕ → CellColumns → List ℕ → List ℕ → Bool
+columnsIn cells regions d rows cols =
+    columnsFit cells regions (length (d .rows)) (length (d .cols)) (length (d .kinds)) (length (d .wraps)) (length (d .nums))
+    (length (d .ats)) (length (d .lens)) (length rows) (length cols)
+
+-- cells and regions are alone in columns that are long enough, and the texts go to the pool from `used` on, if they fit
 abbrev pub IsBody : Got bodyT → ℕ → Held → RuleSection → Held → Type 0
 IsBody (got b q) used h r e =
     let u = used + length (cellBytes (b .0)) in
-    (r ≡ record { ok = true; next = q; used = u + length (ruleBytes (b .1 .1)); rules = recordsFrom u (b .1 .1) })
-    × (e ≡ held (overlaid 0 (columnsFrom used (b .0)) (h .cells)) (sets (h .regionRows) 0 (rowsOf (b .1 .0)))
-    (sets (h .regionCols) 0 (colsOf (b .1 .0))) (sets (sets (h .pool) used (cellBytes (b .0))) u (ruleBytes (b .1 .1))))
+    (r ≡ rulesOf u (length (h .pool)) (got (b .1 .1) q))
+    × (columnsIn (length (b .0)) (length (b .1 .0)) (h .cells) (h .regionRows) (h .regionCols)
+    && leb (u + length (ruleBytes (b .1 .1))) (length (h .pool)) ≡ true
+    → e ≡ held (pages true (columnsFrom used (b .0)) (h .cells)) (pageOf true (length (h .regionRows)) (rowsOf (b .1 .0)))
+    (pageOf true (length (h .regionCols)) (colsOf (b .1 .0)))
+    (allOrZeros true (allOrZeros true (h .pool) used (cellBytes (b .0))) u (ruleBytes (b .1 .1))))
 IsBody (bad p) used h r e = (r .ok ≡ false) × (r .next ≡ p)
 
 -- ---- the first two lines
@@ -90,14 +115,14 @@ startIf false s = startOf s (head .parse s 0)
 -- the pool holds the sheet's name where nothing is refused yet
 abbrev pub Named : Bool → Got Head → List ℕ → List ℕ → Type 0
 Named true g pool pool′ = Unit {0}
-Named false (got h q) pool pool′ = pool′ ≡ sets pool 0 (h .name)
+Named false (got h q) pool pool′ = pool′ ≡ pageOf true (length pool) (h .name)
 Named false (bad p) pool pool′ = Unit {0}
 
 -- ---- the end of the text
 
--- nothing may follow the sections
-abbrev pub finishedIf : Bool → List ℕ → Start → RuleSection → ReadJob
-finishedIf true s t b =
+-- nothing may follow the sections, and the job has to fit
+abbrev pub finishedIf : Bool → Bool → List ℕ → Start → RuleSection → ReadJob
+finishedIf true true s t b =
     record {
       number = 0;
       line = 0;
@@ -109,14 +134,15 @@ finishedIf true s t b =
       name = record { at = 0; len = t .name };
       rules = b .rules;
     }
-finishedIf false s t b = refusedAs 11 (lineOf s (b .next)) 0
+finishedIf true false s t b = refusedAs 6 0 (t .start)
+finishedIf false fits s t b = refusedAs 11 (lineOf s (b .next)) 0
 
-abbrev pub finished : List ℕ → Start → RuleSection → ReadJob
-finished s t b = finishedIf (b .ok && eqb (b .next) (length s)) s t b
+abbrev pub finished : List ℕ → Start → RuleSection → Bool → ReadJob
+finished s t b fits = finishedIf (b .ok && eqb (b .next) (length s)) (fits && b .fits) s t b
 
--- what was left where a job was read
+-- what was left where a job was read that fits
 abbrev pub Left : ReadResult → Held → Held → Type 0
-Left (ReadResult.is j) h e = e ≡ laidOver (laid j) h
+Left (ReadResult.is j) h e = fitsIn (laid j) h ≡ true → e ≡ laidIn true (laid j) h
 Left ReadResult.tooLong h e = Unit {0}
 Left (ReadResult.badLine line) h e = Unit {0}
 Left (ReadResult.tooMany start) h e = Unit {0}

@@ -6,9 +6,9 @@ use model::Span;
 use rulelines::RuleSection;
 use rulelines::no_rules;
 ghost use Prim.Native.Nat.{_≤_};
-ghost use mathlib.Core.Bool.{_||_};
+ghost use mathlib.Core.Bool.{_&&_, _||_};
 ghost use mathlib.Core.Path.{_≡_};
-ghost use lib.Dec.{ltb};
+ghost use lib.Dec.{leb, ltb};
 ghost use lib.ListN.{length};
 ghost use Rattle.grammar.specs.Gram.{lineOf};
 ghost use Rattle.fields.specs.Room.{Room};
@@ -16,7 +16,7 @@ ghost use Rattle.celllines.specs.Columns.{columns};
 ghost use Rattle.jobtext.specs.Text.{head};
 ghost use Rattle.jobtext.specs.Read.{maxText, read};
 ghost use Rattle.reader.specs.Held.{refusedAs, readJob, held, heldAfter};
-ghost use Rattle.reader.specs.Bodies.{tail, IsTail, bodyOf, IsBody, noStart, startIf, Named, finished, Left};
+ghost use Rattle.reader.specs.Bodies.{tail, IsTail, bodyOf, IsBody, columnsFit, noStart, startIf, Named, finished, Left};
 
 // A job as it was read, with its numbers of cells and regions and up to where the pool is used; or the number of the refusal, with the
 // line that is malformed or the starting count.
@@ -33,16 +33,16 @@ pub struct ReadJob {
 }
 
 // What the first two lines say, and the place after them; or the number of the refusal.
-pub struct Start {
-    pub number: u64,
-    pub line: u64,
-    pub limit: u64,
-    pub start: u64,
-    pub cells: usize,
-    pub regions: usize,
-    pub rules: usize,
-    pub name: usize,
-    pub next: usize,
+struct Start {
+    number: u64,
+    line: u64,
+    limit: u64,
+    start: u64,
+    cells: usize,
+    regions: usize,
+    rules: usize,
+    name: usize,
+    next: usize,
 }
 
 // The number of the line that a place of the text stands in.
@@ -230,10 +230,46 @@ fn refused(number: u64, line: u64, start: u64) -> ReadJob
     }
 }
 
-// Nothing may follow the sections.
-fn finish(s: &[u8], start: Start, body: RuleSection) -> ReadJob
+fn within(ok: bool, number: usize, size: usize) -> bool
+    ensures { λ r. ⌜ r ≡ (ok && leb number size) ⌝ }
+{
+    if ok {
+        return number <= size;
+    }
+    false
+}
+
+// Whether the numbers of cells and regions are at most the lengths of their columns.
+fn columns_fit(
+    cells: usize,
+    regions: usize,
+    rows: usize,
+    cols: usize,
+    kinds: usize,
+    wraps: usize,
+    nums: usize,
+    ats: usize,
+    lens: usize,
+    regionrows: usize,
+    regioncols: usize,
+) -> bool
+    ensures { λ r. ⌜ r ≡ columnsFit cells regions rows cols kinds wraps nums ats lens regionrows regioncols ⌝ }
+{
+    let a = within(true, cells, rows);
+    let b = within(a, cells, cols);
+    let c = within(b, cells, kinds);
+    let d = within(c, cells, wraps);
+    let e = within(d, cells, nums);
+    let f = within(e, cells, ats);
+    let g = within(f, cells, lens);
+    let h = within(g, regions, regionrows);
+    within(h, regions, regioncols)
+}
+
+// Nothing may follow the sections; `fits` says whether the columns are long enough for the job, and `body` whether the pool is.
+fn finish(s: &[u8], start: Start, body: RuleSection, fits: bool) -> ReadJob
     requires { ⌜ (length (now s) ≤ maxText) × (start .name ≤ maxText) ⌝ }
-    ensures { λ r. ⌜ r ≡ finished (now (s .entry)) start body ⌝ }
+    ensures { λ r. ⌜ r ≡ finished (now (s .entry)) start body fits ⌝ }
 {
     if !body.ok {
         return refused(11, line_of(s, body.next), 0);
@@ -241,7 +277,14 @@ fn finish(s: &[u8], start: Start, body: RuleSection) -> ReadJob
     if body.next != s.len() {
         return refused(11, line_of(s, body.next), 0);
     }
+    if !fits {
+        return refused(6, 0, start.start);
+    }
+    if !body.fits {
+        return refused(6, 0, start.start);
+    }
     let rules = body.rules;
+    let len = start.name as u32;
     ReadJob {
         number: 0,
         line: 0,
@@ -250,10 +293,7 @@ fn finish(s: &[u8], start: Start, body: RuleSection) -> ReadJob
         cells: start.cells,
         regions: start.regions,
         used: body.used,
-        name: Span {
-            at: 0,
-            len: start.name as u32,
-        },
+        name: Span { at: 0, len },
         rules,
     }
 }
@@ -272,7 +312,9 @@ fn read_text(
     regioncols: &mut [u16],
     pool: &mut [u8],
 ) -> ReadJob
-    ensures { λ r. ⌜ r ≡ readJob (read (now (s .entry))) ⌝ }
+    ensures { λ r. ⌜ r ≡ readJob (held (columns (now (rows .entry)) (now (cols .entry)) (now (kinds .entry)) (now
+        (wraps .entry)) (now (nums .entry)) (now (ats .entry)) (now (lens .entry))) (now (regionrows .entry)) (now
+        (regioncols .entry)) (now (pool .entry))) (read (now (s .entry))) ⌝ }
     ensures { λ _. ⌜ Left (read (now (s .entry))) (held (columns (now (rows .entry)) (now (cols .entry)) (now (kinds .entry)) (now
         (wraps .entry)) (now (nums .entry)) (now
         (ats .entry)) (now (lens .entry))) (now (regionrows .entry)) (now (regioncols .entry)) (now (pool .entry))) (held (columns
@@ -283,6 +325,19 @@ fn read_text(
     if start.number != 0 {
         return refused(start.number, start.line, start.start);
     }
+    let fits = columns_fit(
+        start.cells,
+        start.regions,
+        rows.len(),
+        cols.len(),
+        kinds.len(),
+        wraps.len(),
+        nums.len(),
+        ats.len(),
+        lens.len(),
+        regionrows.len(),
+        regioncols.len(),
+    );
     let body = read_body(
         s,
         start.next,
@@ -301,11 +356,11 @@ fn read_text(
         regioncols,
         pool,
     );
-    finish(s, start, body)
+    finish(s, start, body, fits)
 }
 
-// A job text into the columns from index 0 on, with its texts into the front of the pool. Where the text is refused, all that is lent
-// becomes 0.
+// A job text into the columns from index 0 on, with its texts into the front of the pool, and zeros behind them. Where the text is
+// refused, or the job is longer than a column or the pool (6), all that is lent becomes 0.
 pub fn read_job(
     s: &[u8],
     rows: &mut [u32],
@@ -319,7 +374,9 @@ pub fn read_job(
     regioncols: &mut [u16],
     pool: &mut [u8],
 ) -> ReadJob
-    ensures { λ r. ⌜ r ≡ readJob (read (now (s .entry))) ⌝ }
+    ensures { λ r. ⌜ r ≡ readJob (held (columns (now (rows .entry)) (now (cols .entry)) (now (kinds .entry)) (now
+        (wraps .entry)) (now (nums .entry)) (now (ats .entry)) (now (lens .entry))) (now (regionrows .entry)) (now
+        (regioncols .entry)) (now (pool .entry))) (read (now (s .entry))) ⌝ }
     ensures { λ _. ⌜ held (columns (now (rows .exit)) (now (cols .exit)) (now (kinds .exit)) (now (wraps .exit)) (now (nums .exit)) (now
         (ats .exit)) (now (lens .exit))) (now (regionrows .exit)) (now (regioncols .exit)) (now (pool .exit))
         ≡ heldAfter (read (now (s .entry))) (held (columns (now (rows .entry)) (now (cols .entry)) (now (kinds .entry)) (now

@@ -65,7 +65,7 @@ read-tail-requires c κs =
     let if1-at = read-cells-at .before .before .before .before .before .before .before .before .before in
     let word-at = if1-at .before .before in
     let entry = word-at .before .before .before .before .before .before .before .before .before .before .before .before .before in (
-      tail-room _ _ _ _ (word-at .word .ensures) (entry .pre .0) (if1-at .if1 .left) (read-cells-at .read-cells .ensures .0) (if2-at
+      tail-room _ _ _ _ _ _ (word-at .word .ensures) (entry .pre .0) (if1-at .if1 .left) (read-cells-at .read-cells .ensures .0) (if2-at
           .if2 .left),
       entry .pre .1,
     )

@@ -20,9 +20,12 @@ returns : tie.Need-returns
 returns c = start-refused _ _ _ (c .before .before .before .before .before .read-start .ensures .0) (c .before .if1 .taken) (c
     .refused .ensures)
 
+columns-fit-requires : tie.Need-columns-fit-requires
+columns-fit-requires c κs = search needs
+
 read-body-requires : tie.Need-read-body-requires
 read-body-requires c κs =
-    let if1-at = c .before .before .before .before .before .before .before .before .before .before in
+    let if1-at = c .before .before .before .before .before .before .before .before .before .before .before in
     let read-start-at = if1-at .before .before .before .before in
     let entry = read-start-at .before .before .before .before .before .before .before .before .before .before .before .before .before
     in
@@ -31,9 +34,9 @@ read-body-requires c κs =
 
 finish-requires : tie.Need-finish-requires
 finish-requires c κs =
-    let if1-at = c .before .before .before .before .before .before .before .before .before .before .before .before .before .before
-    .before .before .before .before .before .before .before .before .before .before .before .before .before .before .before .before
-    .before in
+    let if1-at = c .before .before .before .before .before .before .before .before .before .before .before .before .before
+    .before .before .before .before .before .before .before .before .before .before .before .before .before .before .before
+    .before .before .before .before in
     let read-start-at = if1-at .before .before .before .before in
     let entry = read-start-at .before .before .before .before .before .before .before .before .before .before .before .before .before
     in
@@ -71,21 +74,22 @@ same-length-11 : tie.Need-same-length-11
 same-length-11 c =
     let read-body-at = c .before .before .before .before .before .before .before .before .before .before .before .before .before
     .before .before .before .before .before .before .before .before in
-    let read-start-at = read-body-at .before .before .before .before .before .before .before .before .before .before .before .before
-    .before .before .before in
+    let read-start-at = read-body-at .before .before .before .before .before .before .before .before .before .before .before
+    .before .before .before .before .before in
     read-body-at .read-body .kept .1 .1 .1 .1 .1 .1 .1 .1 .1 .1 .1 .1 .1 .1 .1 .0 ∙ read-start-at .read-start .kept .1 .0
 
 returns-2 : tie.Need-returns-2
 returns-2 c =
     let read-body-at = c .before .before .before .before .before .before .before .before .before .before .before .before .before
     .before .before .before .before .before .before .before .before in
-    let if1-at = read-body-at .before .before .before .before .before .before .before .before .before .before .before in
+    let if1-at = read-body-at .before .before .before .before .before .before .before .before .before .before .before .before in
+    let fit-at = read-body-at .before .before .before .before .before .before .before .before .before .before .before in
     let read-start-at = if1-at .before .before .before .before in
     let entry = read-start-at .before .before .before .before .before .before .before .before .before .before .before .before .before
     in
     text-finished (begun (entry .args .s .now) (entry .args .pool .now) (read-start-at .read-start .last .1 .0) (read-start-at
     .read-start .ensures .0) (read-start-at .read-start .ensures .1) (if1-at .if1 .left)) _ _ _ _ _ (read-body-at .read-body
-    .ensures) (c .finish .ensures)
+    .ensures) (fit-at .columns-fit .ensures) (c .finish .ensures)
 
 pub read-text-spec : {M : Type 1} → statement M
 read-text-spec =
@@ -95,6 +99,7 @@ read-text-spec =
     refused-requires
     same-length
     returns
+    columns-fit-requires
     read-body-requires
     finish-requires
     same-length-2
