@@ -1,5 +1,6 @@
 // The fields of a leaf's line, as those of a job text: each reader gives the place after its field.
 use fields::Field;
+use fields::ReadText;
 use fields::bits;
 use fields::byte;
 use fields::decimal;
@@ -107,13 +108,13 @@ fn held_bits(read: Field, kind: u8) -> Held {
     }
 }
 
-fn held_text(read: Field, used: usize) -> Held {
+fn held_text(read: ReadText, used: usize) -> Held {
     Held {
-        ok: read.ok,
+        ok: read.fits,
         kind: 3,
         bits: 0,
         at: narrow32(used as u64),
-        len: narrow32(read.value),
+        len: narrow32(read.length),
         next: read.next,
     }
 }

@@ -46,10 +46,10 @@ fn split_place(bytes: &[u8]) -> Answer {
 pub(crate) fn answer_split(s: &[u8], at: usize, pool: &mut [u8]) -> Answered {
     let letter = byte(s, at, b't');
     let read = text(s, letter.next, b'\n', pool, 0);
-    if letter.ok && read.ok {
+    if letter.ok && read.fits {
         let span = Span {
             at: 0,
-            len: narrow32(read.value),
+            len: narrow32(read.length),
         };
         return Answered {
             answer: split_place(text_at(pool, span)),
