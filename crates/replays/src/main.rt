@@ -1,5 +1,7 @@
-// Replays the lists that its arguments name: decides each job again and holds its report against the one in the list.
+// Replays the lists that its arguments name: decides each job again and holds its report against the one in the list. Before them, one
+// job text is read into memories of several lengths.
 mod list;
+mod memories;
 
 use crate::list::Line;
 use libc::STDOUT_FILENO;
@@ -186,7 +188,18 @@ fn replay_argument(i: usize) {
     replay_file(&name[..n]);
 }
 
+fn write_memories() {
+    let n = memories::differing();
+    io::write_all(
+        STDOUT_FILENO,
+        b"read_job: 12 calls over memories one short, exact and longer: ",
+    );
+    io::print_decimal(STDOUT_FILENO, n);
+    io::write_all(STDOUT_FILENO, b" differ\n");
+}
+
 fn main() {
+    write_memories();
     let n = os::arg_count();
     if n < 2 {
         io::write_all(STDOUT_FILENO, b"NO LIST is named\n");

@@ -1,21 +1,24 @@
 -- A job that was read fits in the memory of a whole job: at most 1,024 cells and regions, and its texts in 32,768 bytes, since each byte
--- of a text takes two of a job text. Assumes nothing.
+-- of a text takes two of a job text. So no text is refused with 6 when it is read. Assumes nothing.
 use Prim.Native.Nat.{ℕ, _+_, _*_, _≤_}
 use mathlib.Core.Path.{_≡_, refl}
 use mathlib.Core.Bool.{Bool, true, false, _||_}
 use mathlib.Core.List.{List}
 use native.Mathlib.Omega.{arith}
 use lib.Dec.{ltb}
-use lib.ListN.{length, length-append}
-use borrow.Author.Tests.{ltb-false}
+use lib.ListN.{length, replicate, length-append, length-map, length-replicate}
+use borrow.Author.Tests.{ltb-false, le-leb}
 use Rattle.grammar.specs.Parts.{bytes}
 use Rattle.jobtext.specs.Written.{JobText}
 use Rattle.jobtext.specs.Fields.{textField}
 use Rattle.jobtext.specs.Text.{Head, head, body, bodyT, ofJob, job}
 use Rattle.jobtext.specs.Read.{ReadResult, over, read}
-use Rattle.jobtext.specs.Laid.{cellBytes, ruleBytes, laid}
+use Rattle.jobtext.specs.Laid.{cellBytes, ruleBytes, columnsFrom, laid}
 use Rattle.jobtext.proofs.Lengths.{pairs-length, cells-half, rules-half}
 use Rattle.jobtext.proofs.Reading.{Readable, read-accepted}
+use Rattle.celllines.specs.Columns.{columns}
+use Rattle.reader.specs.Held.{Held, held, fitsIn}
+use Rattle.reader.proofs.Fits.{ats-length}
 
 -- ---- the counts
 
@@ -66,3 +69,21 @@ readable-fits j r =
 
 pub read-fits : (s : List ℕ) (j : JobText) → read s ≡ ReadResult.is j → Fits j
 read-fits s j e = readable-fits j (read-accepted s j e .readable)
+
+-- ---- the memory of a whole job
+
+-- nine columns of 1,024 and a pool of 32,768
+abbrev pub wholeMemory : Held
+wholeMemory =
+    held (columns (replicate 1024 0) (replicate 1024 0) (replicate 1024 0) (replicate 1024 0) (replicate 1024 0) (replicate 1024 0)
+    (replicate 1024 0)) (replicate 1024 0) (replicate 1024 0) (replicate 32_768 0)
+
+-- every job that a text can say fits in it
+pub never-short : (s : List ℕ) (j : JobText) → read s ≡ ReadResult.is j → fitsIn (laid j) wholeMemory ≡ true
+unfolding fitsIn laid columnsFrom
+never-short s j e =
+    let f = read-fits s j e in
+    let cells = le-leb (length (j .cells)) 1024 (f .cells) in
+    let regions = le-leb (length (j .regions)) 1024 (f .regions) in
+    let pool = le-leb (length (laid j .pool)) 32_768 (f .pool) in
+    simp (length-map, ats-length, length-replicate) (rw (cells, regions, pool))

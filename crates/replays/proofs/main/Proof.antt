@@ -11,6 +11,9 @@ Inv-loop n i₀ i = Unit {0}
 abbrev μ-loop : tie.MeasureT-loop
 μ-loop n i₀ i = n - i
 
+write-memories-requires : tie.Need-write-memories-requires Inv-loop μ-loop
+write-memories-requires c κs = tt
+
 arg-count-requires : tie.Need-arg-count-requires Inv-loop μ-loop
 arg-count-requires c κs = tt
 
@@ -44,6 +47,7 @@ main-spec =
     (tie.spec
     Inv-loop
     μ-loop
+    write-memories-requires
     arg-count-requires
     slice-aggregate-write-all
     write-all-requires
