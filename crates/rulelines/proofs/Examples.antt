@@ -8,11 +8,10 @@ use mathlib.Core.Option.{some}
 use Rattle.memory.specs.Memory.{allOr}
 use Rattle.model.specs.declared.DvOp.{DvOp}
 use Rattle.model.specs.declared.Priority.{Priority}
-use Rattle.model.specs.declared.Range.{Range}
 use Rattle.model.specs.declared.Rgb.{Rgb}
 use Rattle.grammar.specs.Gram.{Got}
 use Rattle.grammar.specs.Gram.Got.{got, bad}
-use Rattle.jobtext.specs.Written.{Reference, Operand, Kind, RuleLine}
+use Rattle.jobtext.specs.Written.{Operand, Kind, RuleLine}
 use Rattle.jobtext.specs.Laid.{nameBytes, operandBytes, kindBytes, ruleBytes}
 use Rattle.rulelines.specs.declared.RuleSection.{RuleSection}
 use Rattle.rulelines.specs.RuleSections.{sectionOf, poolAfter}

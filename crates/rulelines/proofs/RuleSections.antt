@@ -1,7 +1,7 @@
 -- Lines of rules one after the other: what is left from a line on is what the whole leaves (`Rest`), and a law for each turn of the loop.
 -- Assumes nothing.
 use Prim.Native.Nat.{ℕ, zero, suc, _+_, _-_, _≤_, _<_}
-use mathlib.Core.Path.{_≡_, refl, sym, ap, _∙_, subst}
+use mathlib.Core.Path.{_≡_, refl, sym, ap, _∙_}
 use mathlib.Core.Bool.{Bool, true, false, not, _&&_}
 use mathlib.Core.List.{List, [], _∷_, _++_}
 use native.Mathlib.Omega.{arith}
@@ -29,7 +29,7 @@ use Rattle.rulelines.specs.declared.ReadRule.{ReadRule}
 use Rattle.rulelines.specs.declared.RuleSection.{RuleSection}
 use Rattle.rulelines.specs.Lines.{Stored, Pooled}
 use Rattle.rulelines.specs.RuleLines.{ruleBytesOf, IsRule}
-use Rattle.rulelines.specs.RuleSections.{noSection, RulesLeft, rulesLeft, answerOf, rulesAt, sectionOf, poolAfter}
+use Rattle.rulelines.specs.RuleSections.{noSection, rulesLeft, answerOf, rulesAt, sectionOf, poolAfter}
 use Rattle.rulelines.proofs.Comparisons.{stored-both}
 
 rule-size : (l : RuleLine) → ruleLine .Ok l → length (ruleBytesOf l) ≤ length (ruleLine .text l)

@@ -30,19 +30,27 @@ clear-u8-requires-2 : tie.Need-clear-u8-requires-2
 clear-u8-requires-2 c κs = search needs
 
 same-length-2 : tie.Need-same-length-2
-same-length-2 c = c .before .before .clear-u82 .kept .0 ∙ c .before .before .before .before .before .before .before .before .read-rule-lines .kept .1 .1 .1 .0
+same-length-2 c =
+    let lines-at = c .before .before .before .before .before .before .before .before in
+    c .before .before .clear-u82 .kept .0 ∙ lines-at .read-rule-lines .kept .1 .1 .1 .0
 
 returns-2 : tie.Need-returns-2
-returns-2 c = lines-cleared _ _ _ _ _ (c .before .before .before .before .before .before .before .before .before .before .before .has-room .ensures) (c .before .before .before .before .before .before .before .before .before .before .if1 .left)
-    (c .before .before .before .before .before .before .before .before .read-rule-lines .ensures .0) (c .before .before .clear-u82 .ensures ∙ ap (λ (n : ℕ). replicate n 0)
-    (c .before .before .before .before .before .before .before .before .read-rule-lines .kept .1 .1 .1 .0)) (c .before .before .before .before .if2 .taken)
+returns-2 c =
+    let lines-at = c .before .before .before .before .before .before .before .before in
+    let if1-at = lines-at .before .before in
+    lines-cleared _ _ _ _ _ (if1-at .before .has-room .ensures) (if1-at .if1 .left) (lines-at .read-rule-lines .ensures .0)
+    (c .before .before .clear-u82 .ensures ∙ ap (λ (n : ℕ). replicate n 0) (lines-at .read-rule-lines .kept .1 .1 .1 .0))
+    (c .before .before .before .before .if2 .taken)
 
 same-length-3 : tie.Need-same-length-3
 same-length-3 c = c .before .before .before .before .read-rule-lines .kept .1 .1 .1 .0
 
 returns-3 : tie.Need-returns-3
-returns-3 c = lines-read _ _ _ _ _ (c .before .before .before .before .before .before .before .has-room .ensures) (c .before .before .before .before .before .before .if1 .left)
-    (c .before .before .before .before .read-rule-lines .ensures .0) _ (c .before .before .before .before .read-rule-lines .ensures .1) (c .if2 .left)
+returns-3 c =
+    let lines-at = c .before .before .before .before in
+    let if1-at = lines-at .before .before in
+    lines-read _ _ _ _ _ (if1-at .before .has-room .ensures) (if1-at .if1 .left) (lines-at .read-rule-lines .ensures .0) _
+    (lines-at .read-rule-lines .ensures .1) (c .if2 .left)
 
 pub read-rules-spec : {M : Type 1} → statement M
 read-rules-spec =
