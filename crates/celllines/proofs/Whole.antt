@@ -160,10 +160,21 @@ module _ (s : List ℕ) (at n used : ℕ) (d : CellColumns) (pool : List ℕ) wh
   number cs q e = times-length (cellLine .Ok) n cs (times-exact cell-exact n .ok s at cs q e)
 
   -- d₁: the columns cleared; d₂ and pool₂: what the lines left; m: all cells are within the columns; f: and the texts within the pool
-  module _ {b : Bool} (x : b ≡ roomy s at used) (y : not b ≡ false) (r : LinesRead) {d₁ : CellColumns} (d₂ : CellColumns) (pool₂ : List ℕ)
+  module _ {b : Bool} (x : b ≡ roomy s at used) (y : not b ≡ false) (r : LinesRead) (d₁ d₂ : CellColumns) (pool₂ : List ℕ)
       (m : Bool) {f : Bool} (clean : d₁ ≡ blank d) (i : IsLeft (leftOf 0 used lines d₁ pool) r d₂ pool₂)
-      (long : Long d₂ d) (deep : length pool₂ ≡ length pool) (em : m ≡ heldIf (r .ok) n d₂)
+      (kept₁ : Long d₁ d) (kept₂ : Long d₂ d₁) (deep : length pool₂ ≡ length pool) (em : m ≡ heldIf (r .ok) n d₂)
       (ef : f ≡ (m && leb (r .used) (length pool₂))) where
+    long : Long d₂ d
+    long = record {
+      rows = kept₂ .rows ∙ kept₁ .rows;
+      cols = kept₂ .cols ∙ kept₁ .cols;
+      kinds = kept₂ .kinds ∙ kept₁ .kinds;
+      wraps = kept₂ .wraps ∙ kept₁ .wraps;
+      nums = kept₂ .nums ∙ kept₁ .nums;
+      ats = kept₂ .ats ∙ kept₁ .ats;
+      lens = kept₂ .lens ∙ kept₁ .lens;
+    }
+
     in-room : cellsAt s at n used ≡ lines
     unfolding cellsAt
     in-room = rw (sym x ∙ so b y)

@@ -24,108 +24,93 @@ read-lines-requires c κs = lines-room _ _ _ (c .before .before .before .before 
 
 returns-2 : tie.Need-returns-2
 returns-2 c =
-    let a = c .before .before .before .before .before .before .before .before .before .before .before .before .before .before .before
-    .before .before .before .before .before .before .before .before .before .before .before .before .before .before .before .before
-    .before .before .before .before .before .before .before .before .before .before .before .before .before .before .before .before
-    .before .before .before .before .before .before .before .before .before .before .before .before .before .before .before .before
-    .before .before .before .before .before .before .before .before .before .before .before .before .before .before .before .before
-    .before .before .before .before .before .before .before .args in
-    let t = c .before .before .before .before .before .before .before .before .before .before .before .before .before .before .before
-    .before .before .before .before .before .before .before .before .before .before .before .before .before .before .before .before
-    .before .before .before .before .before .before .before .before .before .before .before .before .before .read-lines .last .1 .1 .1
-    .1 in
-    let w = c .before .before .before .before .before .before .before .before .before .before .before .before .before .before .before
-    .before .before .before .before .before .before .before .before .before .before .before .before .before .before .before .before
-    .before .before .before .before .before .before .before .before .before .before .before .before .before .read-lines .kept .1 .1 .1
-    .1 in
-    let v = c .before .before .before .before .before .before .before .before .before .before .before .before .before .before .before
-    .before .before .before .before .before .before .before .before .before .before .before .before .before .before .before .before
-    .before .before .before .before .before .before .before .before .before .before .before .before .before .before .before .before
-    .before .before .before .before .before .before .before .before .before .before .before .before .before .before .before .before
-    .before .before .before .before .clear-columns .kept in
+    let k = c .before .before .before .before .before .before .before .before .before .before .before .before .before .before .before
+    .before in
+    let l = k .before .before .before .before .before .before .before .before .before .before .before .before .before .before .before
+    .before .before .before .before .before .before .before .before .before .before .before .before .before in
+    let j = l .before .before .before .before .before .before .before .before .before .before .before .before .before .before .before
+    .before .before .before .before .before .before .before .before in
+    let h = j .before .before .before .before .before .before .before .before .before in
+    let a = h .before .before .before .before .before .before .before .before .before .before .args in
+    let t = l .read-lines .last .1 .1 .1 .1 in
+    let w = l .read-lines .kept .1 .1 .1 .1 in
+    let v = j .clear-columns .kept in
+    let x = j .clear-columns .last in
+    let y = k .clear-cells2 .last in
     lines-refused _ _ _ _
     (columns (a .rows .now) (a .cols .now) (a .kinds .now) (a .wraps .now) (a .nums .now) (a .ats .now) (a .lens .now)) (a .pool .now)
+    (h .has-room .ensures) (j .before .before .before .before .before .before .before .before .if1 .left) (l .read-lines .result)
+    (columns (x .0) (x .1 .0) (x .1 .1 .0) (x .1 .1 .1 .0) (x .1 .1 .1 .1 .0) (x .1 .1 .1 .1 .1 .0) (x .1 .1 .1 .1 .1 .1 .0)) (columns
+    (t .0) (t .1 .0) (t .1 .1 .0) (t .1 .1 .1 .0) (t .1 .1 .1 .1 .0) (t .1 .1 .1 .1 .1 .0) (t .1 .1 .1 .1 .1 .1 .0)) (t .1 .1 .1 .1 .1
+    .1 .1 .0)
     (c .before .before .before .before .before .before .before .before .before .before .before .before .before .before .before .before
-    .before .before .before .before .before .before .before .before .before .before .before .before .before .before .before .before
-    .before .before .before .before .before .before .before .before .before .before .before .before .before .before .before .before
-    .before .before .before .before .before .before .before .before .before .before .before .before .before .before .before .before
-    .before .before .before .before .before .before .before .before .before .before .before .before .has-room .ensures) (c .before
-    .before .before .before .before .before .before .before .before .before .before .before .before .before .before .before .before
-    .before .before .before .before .before .before .before .before .before .before .before .before .before .before .before .before
-    .before .before .before .before .before .before .before .before .before .before .before .before .before .before .before .before
-    .before .before .before .before .before .before .before .before .before .before .before .before .before .before .before .before
-    .before .before .before .before .before .before .before .before .before .before .if1 .left) (c .before .before .before .before
-    .before .before .before .before .before .before .before .before .before .before .before .before .before .before .before .before
-    .before .before .before .before .before .before .before .before .before .before .before .before .before .before .before .before
-    .before .before .before .before .before .before .before .before .read-lines .result)
-    (columns (t .0) (t .1 .0) (t .1 .1 .0) (t .1 .1 .1 .0) (t .1 .1 .1 .1 .0) (t .1 .1 .1 .1 .1 .0) (t .1 .1 .1 .1 .1 .1 .0)) (t .1 .1
-    .1 .1 .1 .1 .1 .0)
-    (c .before .before .before .before .before .before .before .before .before .before .before .before .before .before .before .before
-    .before .before .before .before .before .before .before .before .before .before .before .all-within .result) (c .before .before
-    .before .before .before .before .before .before .before .before .before .before .before .before .before .before .before .before
-    .before .before .before .before .before .before .before .before .before .before .before .before .before .before .before .before
-    .before .before .before .before .before .before .before .before .before .before .before .before .before .before .before .before
-    .before .before .before .before .before .before .before .before .before .before .before .before .before .before .before .before
-    .before .clear-columns .ensures) (c .before .before .before .before .before .before .before .before .before .before .before .before
-    .before .before .before .before .before .before .before .before .before .before .before .before .before .before .before .before
-    .before .before .before .before .before .before .before .before .before .before .before .before .before .before .before .before
-    .read-lines .ensures)
+    .before .before .before .before .before .before .before .before .before .before .before .all-within .result) (j .clear-columns
+    .ensures) (l .read-lines .ensures)
     (record {
-      rows = w .0 ∙ v .0;
-      cols = w .1 .0 ∙ v .1 .0;
-      kinds = w .1 .1 .0 ∙ v .1 .1 .0;
-      wraps = w .1 .1 .1 .0 ∙ v .1 .1 .1 .0;
-      nums = w .1 .1 .1 .1 .0 ∙ v .1 .1 .1 .1 .0;
-      ats = w .1 .1 .1 .1 .1 .0 ∙ v .1 .1 .1 .1 .1 .0;
-      lens = w .1 .1 .1 .1 .1 .1 .0 ∙ v .1 .1 .1 .1 .1 .1 .0;
+      rows = v .0;
+      cols = v .1 .0;
+      kinds = v .1 .1 .0;
+      wraps = v .1 .1 .1 .0;
+      nums = v .1 .1 .1 .1 .0;
+      ats = v .1 .1 .1 .1 .1
+          .0;
+      lens = v .1 .1 .1 .1 .1 .1 .0;
+    })
+    (record {
+      rows = w .0;
+      cols = w .1 .0;
+      kinds = w .1 .1 .0;
+      wraps = w .1 .1 .1 .0;
+      nums = w .1 .1 .1 .1 .0;
+      ats = w .1 .1 .1 .1 .1
+          .0;
+      lens = w .1 .1 .1 .1 .1 .1 .0;
     }) (w .1 .1 .1 .1 .1 .1 .1 .0)
     (c .before .before .before .before .before .before .before .before .before .before .before .before .before .before .before .before
     .before .before .before .before .before .before .before .before .before .before .before .all-within .ensures) (c .before .before
     .before .before .before .before .before .before .before .before .before .before .before .before .before .before .before .before
-    .before .before .before .before .before .before .before .before .within .ensures) _ _ (c .before .before .before .before .before
-    .before .before .before .before .before .before .before .before .before .before .before .before .before .before .before .before
-    .before .before .before .before .if2 .taken) (c .before .before .before .before .before .before .before .before .before .before
-    .before .before .before .before .before .before .clear-cells2 .ensures .0) (c .before .before .before .before .before .before
-    .before .before .before .before .before .before .before .before .before .before .clear-cells2 .ensures .1)
+    .before .before .before .before .before .before .before .before .within .ensures) (columns (y .0) (y .1 .0) (y .1 .1 .0) (y .1 .1 .1
+    .0) (y .1 .1 .1 .1 .0) (y .1 .1 .1 .1 .1 .0) (y .1 .1 .1 .1 .1 .1 .0)) (y .1 .1 .1 .1 .1 .1 .1 .0) (k .before .before .before
+    .before .before .before .before .before .before .if2 .taken) (k .clear-cells2 .ensures .0) (k .clear-cells2 .ensures .1)
 
 returns-3 : tie.Need-returns-3
 returns-3 c =
-    let a = c .before .before .before .before .before .before .before .before .before .before .before .before .before .before .before
-    .before .before .before .before .before .before .before .before .before .before .before .before .before .before .before .before
-    .before .before .before .before .before .before .before .before .before .before .before .before .before .before .before .before
-    .before .before .before .before .before .before .before .before .before .before .before .before .before .before .args in
-    let t = c .before .before .before .before .before .before .before .before .before .before .before .before .before .before .before
-    .before .before .before .before .read-lines .last .1 .1 .1 .1 in
-    let w = c .before .before .before .before .before .before .before .before .before .before .before .before .before .before .before
-    .before .before .before .before .read-lines .kept .1 .1 .1 .1 in
-    let v = c .before .before .before .before .before .before .before .before .before .before .before .before .before .before .before
-    .before .before .before .before .before .before .before .before .before .before .before .before .before .before .before .before
-    .before .before .before .before .before .before .before .before .before .before .before .clear-columns .kept in
+    let l = c .before .before .before .before .before .before .before .before .before .before .before .before .before .before .before
+    .before .before .before .before in
+    let j = l .before .before .before .before .before .before .before .before .before .before .before .before .before .before .before
+    .before .before .before .before .before .before .before .before in
+    let h = j .before .before .before .before .before .before .before .before .before in
+    let a = h .before .before .before .before .before .before .before .before .before .before .args in
+    let t = l .read-lines .last .1 .1 .1 .1 in
+    let w = l .read-lines .kept .1 .1 .1 .1 in
+    let v = j .clear-columns .kept in
+    let x = j .clear-columns .last in
     lines-read _ _ _ _
     (columns (a .rows .now) (a .cols .now) (a .kinds .now) (a .wraps .now) (a .nums .now) (a .ats .now) (a .lens .now)) (a .pool .now)
-    (c .before .before .before .before .before .before .before .before .before .before .before .before .before .before .before .before
-    .before .before .before .before .before .before .before .before .before .before .before .before .before .before .before .before
-    .before .before .before .before .before .before .before .before .before .before .before .before .before .before .before .before
-    .before .before .before .has-room .ensures) (c .before .before .before .before .before .before .before .before .before .before
-    .before .before .before .before .before .before .before .before .before .before .before .before .before .before .before .before
-    .before .before .before .before .before .before .before .before .before .before .before .before .before .before .before .before
-    .before .before .before .before .before .before .before .before .if1 .left) (c .before .before .before .before .before .before
-    .before .before .before .before .before .before .before .before .before .before .before .before .before .read-lines .result)
-    (columns (t .0) (t .1 .0) (t .1 .1 .0) (t .1 .1 .1 .0) (t .1 .1 .1 .1 .0) (t .1 .1 .1 .1 .1 .0) (t .1 .1 .1 .1 .1 .1 .0)) (t .1 .1
-    .1 .1 .1 .1 .1 .0)
-    (c .before .before .all-within .result) (c .before .before .before .before .before .before .before .before .before .before .before
-    .before .before .before .before .before .before .before .before .before .before .before .before .before .before .before .before
-    .before .before .before .before .before .before .before .before .before .before .before .before .before .before .before
-    .clear-columns .ensures) (c .before .before .before .before .before .before .before .before .before .before .before .before .before
-    .before .before .before .before .before .before .read-lines .ensures)
+    (h .has-room .ensures) (j .before .before .before .before .before .before .before .before .if1 .left) (l .read-lines .result)
+    (columns (x .0) (x .1 .0) (x .1 .1 .0) (x .1 .1 .1 .0) (x .1 .1 .1 .1 .0) (x .1 .1 .1 .1 .1 .0) (x .1 .1 .1 .1 .1 .1 .0)) (columns
+    (t .0) (t .1 .0) (t .1 .1 .0) (t .1 .1 .1 .0) (t .1 .1 .1 .1 .0) (t .1 .1 .1 .1 .1 .0) (t .1 .1 .1 .1 .1 .1 .0)) (t .1 .1 .1 .1 .1
+    .1 .1 .0)
+    (c .before .before .all-within .result) (j .clear-columns .ensures) (l .read-lines .ensures)
     (record {
-      rows = w .0 ∙ v .0;
-      cols = w .1 .0 ∙ v .1 .0;
-      kinds = w .1 .1 .0 ∙ v .1 .1 .0;
-      wraps = w .1 .1 .1 .0 ∙ v .1 .1 .1 .0;
-      nums = w .1 .1 .1 .1 .0 ∙ v .1 .1 .1 .1 .0;
-      ats = w .1 .1 .1 .1 .1 .0 ∙ v .1 .1 .1 .1 .1 .0;
-      lens = w .1 .1 .1 .1 .1 .1 .0 ∙ v .1 .1 .1 .1 .1 .1 .0;
+      rows = v .0;
+      cols = v .1 .0;
+      kinds = v .1 .1 .0;
+      wraps = v .1 .1 .1 .0;
+      nums = v .1 .1 .1 .1 .0;
+      ats = v .1 .1 .1 .1 .1
+          .0;
+      lens = v .1 .1 .1 .1 .1 .1 .0;
+    })
+    (record {
+      rows = w .0;
+      cols = w .1 .0;
+      kinds = w .1 .1 .0;
+      wraps = w .1 .1 .1 .0;
+      nums = w .1 .1 .1 .1 .0;
+      ats = w .1 .1 .1 .1 .1
+          .0;
+      lens = w .1 .1 .1 .1 .1 .1 .0;
     }) (w .1 .1 .1 .1 .1 .1 .1 .0)
     (c .before .before .all-within .ensures) (c .before .within .ensures) (c .if2 .left)
 
@@ -157,111 +142,81 @@ read-cells-spec =
     (λ c κs. search needs)
     (λ c κs. search needs)
     (λ c κs. search needs)
-    (λ c. c .before .before .before .before .before .before .before .before .before .before .before .before .before .before .before
-    .before .clear-cells2 .kept .0 ∙ (c .before .before .before .before .before .before .before .before .before .before .before .before
+    (λ c. let k = c .before .before .before .before .before .before .before .before .before .before .before .before .before .before
+    .before .before in let l = k .before .before .before .before .before .before .before .before .before .before .before .before .before
+    .before .before .before .before .before .before .before .before .before .before .before .before .before .before .before in k
+    .clear-cells2 .kept .0 ∙ (l .read-lines .kept .1 .1 .1 .1 .0 ∙ l .before .before .before .before .before .before .before .before
+    .before .before .before .before .before .before .before .before .before .before .before .before .before .before .before
+    .clear-columns .kept .0))
+    (λ c. let k = c .before .before .before .before .before .before .before .before .before .before .before .before .before .before
+    .before .before in let l = k .before .before .before .before .before .before .before .before .before .before .before .before .before
+    .before .before .before .before .before .before .before .before .before .before .before .before .before .before .before in k
+    .clear-cells2 .kept .1 .0 ∙ (l .read-lines .kept .1 .1 .1 .1 .1 .0 ∙ l .before .before .before .before .before .before .before
     .before .before .before .before .before .before .before .before .before .before .before .before .before .before .before .before
+    .clear-columns .kept .1 .0))
+    (λ c. let k = c .before .before .before .before .before .before .before .before .before .before .before .before .before .before
+    .before .before in let l = k .before .before .before .before .before .before .before .before .before .before .before .before .before
+    .before .before .before .before .before .before .before .before .before .before .before .before .before .before .before in k
+    .clear-cells2 .kept .1 .1 .0 ∙ (l .read-lines .kept .1 .1 .1 .1 .1 .1 .0 ∙ l .before .before .before .before .before .before .before
     .before .before .before .before .before .before .before .before .before .before .before .before .before .before .before .before
-    .read-lines .kept .1 .1 .1 .1 .0 ∙ c .before .before .before .before .before .before .before .before .before .before .before .before
+    .clear-columns .kept .1 .1 .0))
+    (λ c. let k = c .before .before .before .before .before .before .before .before .before .before .before .before .before .before
+    .before .before in let l = k .before .before .before .before .before .before .before .before .before .before .before .before .before
+    .before .before .before .before .before .before .before .before .before .before .before .before .before .before .before in k
+    .clear-cells2 .kept .1 .1 .1 .0 ∙ (l .read-lines .kept .1 .1 .1 .1 .1 .1 .1 .0 ∙ l .before .before .before .before .before .before
     .before .before .before .before .before .before .before .before .before .before .before .before .before .before .before .before
+    .before .clear-columns .kept .1 .1 .1 .0))
+    (λ c. let k = c .before .before .before .before .before .before .before .before .before .before .before .before .before .before
+    .before .before in let l = k .before .before .before .before .before .before .before .before .before .before .before .before .before
+    .before .before .before .before .before .before .before .before .before .before .before .before .before .before .before in k
+    .clear-cells2 .kept .1 .1 .1 .1 .0 ∙ (l .read-lines .kept .1 .1 .1 .1 .1 .1 .1 .1 .0 ∙ l .before .before .before .before .before
     .before .before .before .before .before .before .before .before .before .before .before .before .before .before .before .before
+    .before .before .clear-columns .kept .1 .1 .1 .1 .0))
+    (λ c. let k = c .before .before .before .before .before .before .before .before .before .before .before .before .before .before
+    .before .before in let l = k .before .before .before .before .before .before .before .before .before .before .before .before .before
+    .before .before .before .before .before .before .before .before .before .before .before .before .before .before .before in k
+    .clear-cells2 .kept .1 .1 .1 .1 .1 .0 ∙ (l .read-lines .kept .1 .1 .1 .1 .1 .1 .1 .1 .1 .0 ∙ l .before .before .before .before
     .before .before .before .before .before .before .before .before .before .before .before .before .before .before .before .before
-    .before .before .before .before .before .before .before .clear-columns .kept .0))
-    (λ c. c .before .before .before .before .before .before .before .before .before .before .before .before .before .before .before
-    .before .clear-cells2 .kept .1 .0 ∙ (c .before .before .before .before .before .before .before .before .before .before .before
+    .before .before .before .clear-columns .kept .1 .1 .1 .1 .1 .0))
+    (λ c. let k = c .before .before .before .before .before .before .before .before .before .before .before .before .before .before
+    .before .before in let l = k .before .before .before .before .before .before .before .before .before .before .before .before .before
+    .before .before .before .before .before .before .before .before .before .before .before .before .before .before .before in k
+    .clear-cells2 .kept .1 .1 .1 .1 .1 .1 .0 ∙ (l .read-lines .kept .1 .1 .1 .1 .1 .1 .1 .1 .1 .1 .0 ∙ l .before .before .before .before
     .before .before .before .before .before .before .before .before .before .before .before .before .before .before .before .before
-    .before .before .before .before .before .before .before .before .before .before .before .before .before .before .before .before
-    .before .read-lines .kept .1 .1 .1 .1 .1 .0 ∙ c .before .before .before .before .before .before .before .before .before .before
-    .before .before .before .before .before .before .before .before .before .before .before .before .before .before .before .before
-    .before .before .before .before .before .before .before .before .before .before .before .before .before .before .before .before
-    .before .before .before .before .before .before .before .before .before .before .before .before .before .before .before .before
-    .before .before .before .before .before .before .before .before .before .clear-columns .kept .1 .0))
-    (λ c. c .before .before .before .before .before .before .before .before .before .before .before .before .before .before .before
-    .before .clear-cells2 .kept .1 .1 .0 ∙ (c .before .before .before .before .before .before .before .before .before .before .before
-    .before .before .before .before .before .before .before .before .before .before .before .before .before .before .before .before
-    .before .before .before .before .before .before .before .before .before .before .before .before .before .before .before .before
-    .before .read-lines .kept .1 .1 .1 .1 .1 .1 .0 ∙ c .before .before .before .before .before .before .before .before .before .before
-    .before .before .before .before .before .before .before .before .before .before .before .before .before .before .before .before
-    .before .before .before .before .before .before .before .before .before .before .before .before .before .before .before .before
-    .before .before .before .before .before .before .before .before .before .before .before .before .before .before .before .before
-    .before .before .before .before .before .before .before .before .before .clear-columns .kept .1 .1 .0))
-    (λ c. c .before .before .before .before .before .before .before .before .before .before .before .before .before .before .before
-    .before .clear-cells2 .kept .1 .1 .1 .0 ∙ (c .before .before .before .before .before .before .before .before .before .before .before
-    .before .before .before .before .before .before .before .before .before .before .before .before .before .before .before .before
-    .before .before .before .before .before .before .before .before .before .before .before .before .before .before .before .before
-    .before .read-lines .kept .1 .1 .1 .1 .1 .1 .1 .0 ∙ c .before .before .before .before .before .before .before .before .before
-    .before .before .before .before .before .before .before .before .before .before .before .before .before .before .before .before
-    .before .before .before .before .before .before .before .before .before .before .before .before .before .before .before .before
-    .before .before .before .before .before .before .before .before .before .before .before .before .before .before .before .before
-    .before .before .before .before .before .before .before .before .before .before .clear-columns .kept .1 .1 .1 .0))
-    (λ c. c .before .before .before .before .before .before .before .before .before .before .before .before .before .before .before
-    .before .clear-cells2 .kept .1 .1 .1 .1 .0 ∙ (c .before .before .before .before .before .before .before .before .before .before
-    .before .before .before .before .before .before .before .before .before .before .before .before .before .before .before .before
-    .before .before .before .before .before .before .before .before .before .before .before .before .before .before .before .before
-    .before .before .read-lines .kept .1 .1 .1 .1 .1 .1 .1 .1 .0 ∙ c .before .before .before .before .before .before .before .before
-    .before .before .before .before .before .before .before .before .before .before .before .before .before .before .before .before
-    .before .before .before .before .before .before .before .before .before .before .before .before .before .before .before .before
-    .before .before .before .before .before .before .before .before .before .before .before .before .before .before .before .before
-    .before .before .before .before .before .before .before .before .before .before .before .clear-columns .kept .1 .1 .1 .1 .0))
-    (λ c. c .before .before .before .before .before .before .before .before .before .before .before .before .before .before .before
-    .before .clear-cells2 .kept .1 .1 .1 .1 .1 .0 ∙ (c .before .before .before .before .before .before .before .before .before .before
-    .before .before .before .before .before .before .before .before .before .before .before .before .before .before .before .before
-    .before .before .before .before .before .before .before .before .before .before .before .before .before .before .before .before
-    .before .before .read-lines .kept .1 .1 .1 .1 .1 .1 .1 .1 .1 .0 ∙ c .before .before .before .before .before .before .before .before
-    .before .before .before .before .before .before .before .before .before .before .before .before .before .before .before .before
-    .before .before .before .before .before .before .before .before .before .before .before .before .before .before .before .before
-    .before .before .before .before .before .before .before .before .before .before .before .before .before .before .before .before
-    .before .before .before .before .before .before .before .before .before .before .before .clear-columns .kept .1 .1 .1 .1 .1 .0))
-    (λ c. c .before .before .before .before .before .before .before .before .before .before .before .before .before .before .before
-    .before .clear-cells2 .kept .1 .1 .1 .1 .1 .1 .0 ∙ (c .before .before .before .before .before .before .before .before .before
-    .before .before .before .before .before .before .before .before .before .before .before .before .before .before .before .before
-    .before .before .before .before .before .before .before .before .before .before .before .before .before .before .before .before
-    .before .before .before .read-lines .kept .1 .1 .1 .1 .1 .1 .1 .1 .1 .1 .0 ∙ c .before .before .before .before .before .before
-    .before .before .before .before .before .before .before .before .before .before .before .before .before .before .before .before
-    .before .before .before .before .before .before .before .before .before .before .before .before .before .before .before .before
-    .before .before .before .before .before .before .before .before .before .before .before .before .before .before .before .before
-    .before .before .before .before .before .before .before .before .before .before .before .before .before .clear-columns .kept .1 .1
-    .1 .1 .1 .1 .0))
-    (λ c. c .before .before .before .before .before .before .before .before .before .before .before .before .before .before .before
-    .before .clear-cells2 .kept .1 .1 .1 .1 .1 .1 .1 .0 ∙ c .before .before .before .before .before .before .before .before .before
-    .before .before .before .before .before .before .before .before .before .before .before .before .before .before .before .before
-    .before .before .before .before .before .before .before .before .before .before .before .before .before .before .before .before
-    .before .before .before .read-lines .kept .1 .1 .1 .1 .1 .1 .1 .1 .1 .1 .1 .0)
+    .before .before .before .clear-columns .kept .1 .1 .1 .1 .1 .1 .0))
+    (λ c. let k = c .before .before .before .before .before .before .before .before .before .before .before .before .before .before
+    .before .before in let l = k .before .before .before .before .before .before .before .before .before .before .before .before .before
+    .before .before .before .before .before .before .before .before .before .before .before .before .before .before .before in k
+    .clear-cells2 .kept .1 .1 .1 .1 .1 .1 .1 .0 ∙ (l .read-lines .kept .1 .1 .1 .1 .1 .1 .1 .1 .1 .1 .1 .0))
     returns-2
-    (λ c. c .before .before .before .before .before .before .before .before .before .before .before .before .before .before .before
-    .before .before .before .before .read-lines .kept .1 .1 .1 .1 .0 ∙ c .before .before .before .before .before .before .before .before
+    (λ c. let l = c .before .before .before .before .before .before .before .before .before .before .before .before .before .before
+    .before .before .before .before .before in l .read-lines .kept .1 .1 .1 .1 .0 ∙ l .before .before .before .before .before .before
     .before .before .before .before .before .before .before .before .before .before .before .before .before .before .before .before
+    .before .clear-columns .kept .0)
+    (λ c. let l = c .before .before .before .before .before .before .before .before .before .before .before .before .before .before
+    .before .before .before .before .before in l .read-lines .kept .1 .1 .1 .1 .1 .0 ∙ l .before .before .before .before .before .before
     .before .before .before .before .before .before .before .before .before .before .before .before .before .before .before .before
-    .before .before .clear-columns .kept .0)
-    (λ c. c .before .before .before .before .before .before .before .before .before .before .before .before .before .before .before
-    .before .before .before .before .read-lines .kept .1 .1 .1 .1 .1 .0 ∙ c .before .before .before .before .before .before .before
+    .before .clear-columns .kept .1 .0)
+    (λ c. let l = c .before .before .before .before .before .before .before .before .before .before .before .before .before .before
+    .before .before .before .before .before in l .read-lines .kept .1 .1 .1 .1 .1 .1 .0 ∙ l .before .before .before .before .before
     .before .before .before .before .before .before .before .before .before .before .before .before .before .before .before .before
+    .before .before .clear-columns .kept .1 .1 .0)
+    (λ c. let l = c .before .before .before .before .before .before .before .before .before .before .before .before .before .before
+    .before .before .before .before .before in l .read-lines .kept .1 .1 .1 .1 .1 .1 .1 .0 ∙ l .before .before .before .before .before
     .before .before .before .before .before .before .before .before .before .before .before .before .before .before .before .before
-    .before .before .before .clear-columns .kept .1 .0)
-    (λ c. c .before .before .before .before .before .before .before .before .before .before .before .before .before .before .before
-    .before .before .before .before .read-lines .kept .1 .1 .1 .1 .1 .1 .0 ∙ c .before .before .before .before .before .before .before
+    .before .before .clear-columns .kept .1 .1 .1 .0)
+    (λ c. let l = c .before .before .before .before .before .before .before .before .before .before .before .before .before .before
+    .before .before .before .before .before in l .read-lines .kept .1 .1 .1 .1 .1 .1 .1 .1 .0 ∙ l .before .before .before .before
     .before .before .before .before .before .before .before .before .before .before .before .before .before .before .before .before
+    .before .before .before .clear-columns .kept .1 .1 .1 .1 .0)
+    (λ c. let l = c .before .before .before .before .before .before .before .before .before .before .before .before .before .before
+    .before .before .before .before .before in l .read-lines .kept .1 .1 .1 .1 .1 .1 .1 .1 .1 .0 ∙ l .before .before .before .before
     .before .before .before .before .before .before .before .before .before .before .before .before .before .before .before .before
-    .before .before .before .clear-columns .kept .1 .1 .0)
-    (λ c. c .before .before .before .before .before .before .before .before .before .before .before .before .before .before .before
-    .before .before .before .before .read-lines .kept .1 .1 .1 .1 .1 .1 .1 .0 ∙ c .before .before .before .before .before .before
+    .before .before .before .clear-columns .kept .1 .1 .1 .1 .1 .0)
+    (λ c. let l = c .before .before .before .before .before .before .before .before .before .before .before .before .before .before
+    .before .before .before .before .before in l .read-lines .kept .1 .1 .1 .1 .1 .1 .1 .1 .1 .1 .0 ∙ l .before .before .before .before
     .before .before .before .before .before .before .before .before .before .before .before .before .before .before .before .before
-    .before .before .before .before .before .before .before .before .before .before .before .before .before .before .before .before
-    .before .before .before .before .clear-columns .kept .1 .1 .1 .0)
-    (λ c. c .before .before .before .before .before .before .before .before .before .before .before .before .before .before .before
-    .before .before .before .before .read-lines .kept .1 .1 .1 .1 .1 .1 .1 .1 .0 ∙ c .before .before .before .before .before .before
-    .before .before .before .before .before .before .before .before .before .before .before .before .before .before .before .before
-    .before .before .before .before .before .before .before .before .before .before .before .before .before .before .before .before
-    .before .before .before .before .clear-columns .kept .1 .1 .1 .1 .0)
-    (λ c. c .before .before .before .before .before .before .before .before .before .before .before .before .before .before .before
-    .before .before .before .before .read-lines .kept .1 .1 .1 .1 .1 .1 .1 .1 .1 .0 ∙ c .before .before .before .before .before .before
-    .before .before .before .before .before .before .before .before .before .before .before .before .before .before .before .before
-    .before .before .before .before .before .before .before .before .before .before .before .before .before .before .before .before
-    .before .before .before .before .clear-columns .kept .1 .1 .1 .1 .1 .0)
-    (λ c. c .before .before .before .before .before .before .before .before .before .before .before .before .before .before .before
-    .before .before .before .before .read-lines .kept .1 .1 .1 .1 .1 .1 .1 .1 .1 .1 .0 ∙ c .before .before .before .before .before
-    .before .before .before .before .before .before .before .before .before .before .before .before .before .before .before .before
-    .before .before .before .before .before .before .before .before .before .before .before .before .before .before .before .before
-    .before .before .before .before .before .clear-columns .kept .1 .1 .1 .1 .1 .1 .0)
-    (λ c. c .before .before .before .before .before .before .before .before .before .before .before .before .before .before .before
-    .before .before .before .before .read-lines .kept .1 .1 .1 .1 .1 .1 .1 .1 .1 .1 .1 .0)
+    .before .before .before .clear-columns .kept .1 .1 .1 .1 .1 .1 .0)
+    (λ c. let l = c .before .before .before .before .before .before .before .before .before .before .before .before .before .before
+    .before .before .before .before .before in l .read-lines .kept .1 .1 .1 .1 .1 .1 .1 .1 .1 .1 .1 .0)
     returns-3)
