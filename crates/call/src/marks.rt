@@ -5,7 +5,6 @@ use model::Outcome;
 use model::Paint;
 ghost use Prim.Native.Nat.{_≤_};
 ghost use mathlib.Core.Path.{_≡_};
-ghost use mathlib.Core.Bool.{cond};
 ghost use lib.ListN.{length, set};
 ghost use Rattle.model.specs.Run.{marksFrom};
 ghost use Rattle.turns.specs.Emit.{outcomesOf, markColumns, markAt, putMark, putMarks, barColumns, drawBar, drawBars, stopAt, stops};
@@ -118,19 +117,15 @@ pub(crate) fn draw_bars(outcomes: [Said; 1024], rule: u8, rules: &mut [u32], ppm
     }
 }
 
-fn flag_of(stop: bool) -> u8
-    ensures { λ r. ⌜ r ≡ cond stop 1 0 ⌝ }
-{
-    if stop { 1 } else { 0 }
-}
-
 // The stop flag of a region that gets a mark. Port of the stops of apply_conditional_paint (conditional.rs).
 fn stop_region(outcome: Outcome, stop: bool, region: usize, flags: &mut [u8])
     ensures { λ _. ⌜ now (flags .exit) ≡ stopAt stop region outcome (now (flags .entry)) ⌝ }
 {
     if let Outcome::Painted(_) = outcome {
-        if region < flags.len() {
-            flags[region] = flag_of(stop);
+        if stop {
+            if region < flags.len() {
+                flags[region] = 1;
+            }
         }
     }
 }

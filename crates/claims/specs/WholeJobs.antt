@@ -1,9 +1,8 @@
 -- What is claimed of the calls for C, as statements only: of what the contracts of `wavendiru_whole_job`, `wavendiru_ratio` and
--- `wavendiru_channel` ask (`Pre`) and promise (`Post`; Claims.antt says where these are from), and of the definition that a whole job
--- goes by. proofs/WholeJobsHeld.antt proves them. Assumes nothing.
-use Prim.Native.Nat.{ℕ, _^_, _≤_, _<_}
+-- `wavendiru_channel` ask (`Pre`) and promise (`Post`; Claims.antt says where these are from). proofs/WholeJobsHeld.antt proves them.
+-- Assumes nothing.
+use Prim.Native.Nat.{ℕ, _≤_}
 use mathlib.Core.Path.{_≡_}
-use mathlib.Core.Logic.{_↔_}
 use mathlib.Core.List.{List}
 use base.Fml.{GName}
 use contract.Lifetimes.{Lfts}
@@ -11,14 +10,8 @@ use denote.Ref.{RefT}
 use lib.ListN.{length, take}
 use lib.Ieee.{Float}
 use Rattle.model.specs.Ratio.{ratio, channel}
-use Rattle.model.specs.Answer.{answered}
-use Rattle.model.specs.Job.{runOf}
-use Rattle.laws.specs.Demands.{WellFormed, reached, markCount}
-use Rattle.jobtext.specs.Written.{JobText}
-use Rattle.jobtext.specs.Text.{job}
-use Rattle.jobtext.specs.Read.{ReadResult, maxText, read}
-use Rattle.jobtext.specs.Laid.{laid, decided}
-use Rattle.jobtext.proofs.Reading.{Readable}
+use Rattle.jobtext.specs.Read.{read}
+use Rattle.jobtext.specs.Decided.{decided}
 use Rattle.memory.specs.Memory.{page, pageLength}
 use Rattle.reporttext.specs.Report.{reportOf}
 use Rattle.reporttext.specs.Longest.{longest}
@@ -79,27 +72,3 @@ RatioGiven = (value minimum maximum : Float) (r : ℕ) → ratioCall.Pre tt (thr
 abbrev pub ChannelGiven : Type 0
 ChannelGiven = (start end ppm r : ℕ) → channelCall.Pre tt (three start end ppm)
     × (channelCall.Post tt (three start end ppm) r (three start end ppm) → r ≡ channel start end ppm)
-
--- ---- the text
-
--- a text is accepted as a job exactly if it is the text of that job, which has one
-abbrev pub ReadExactly : Type 0
-ReadExactly = (s : List ℕ) (j : JobText) → (read s ≡ ReadResult.is j) ↔ (Readable j × (s ≡ job .text j))
-
--- one job, one text
-abbrev pub OneText : Type 0
-OneText = (j k : JobText) → Readable j → Readable k → job .text j ≡ job .text k → j ≡ k
-
--- 10 is said of the texts of more than 65,536 bytes
-abbrev pub TooLong : Type 0
-TooLong = (s : List ℕ) → (read s ≡ ReadResult.tooLong) ↔ (maxText < length s)
-
--- a job with another limit
-abbrev pub withLimit : ℕ → JobText → JobText
-withLimit limit j =
-    record { limit = limit; start = j .start; name = j .name; cells = j .cells; regions = j .regions; rules = j .rules }
-
--- no mark moves when the limit is raised: from E on every limit gives one result
-abbrev pub LimitRaised : Type 0
-LimitRaised = (j : JobText) (limit : ℕ) → WellFormed (laid j) → reached (laid j) < 2 ^ 64 → markCount (laid j) ≤ 1024
-    → reached (laid j) ≤ limit → decided (ReadResult.is (withLimit limit j)) ≡ answered (reached (laid j)) (runOf (laid j))

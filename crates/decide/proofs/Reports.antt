@@ -14,10 +14,10 @@ use Rattle.model.specs.Columns.{Columns, columnsOf}
 use Rattle.laws.specs.Demands.{lengthsOf}
 use Rattle.laws.proofs.Results.{WholeJob, Refused, result-is}
 use Rattle.laws.proofs.DemandOne.{refused-unanswered, demand-one}
-use Rattle.jobtext.specs.Laid.{space}
+use Rattle.jobtext.specs.Decided.{wholeSpace}
 use Rattle.reporttext.specs.Report.{reportOf}
-use Rattle.reporttext.specs.Held.{printed, resultIn, holdsMarks}
-use Rattle.reporttext.proofs.Held.{job-report}
+use Rattle.reporttext.specs.Shown.{printed, resultIn, holdsMarks}
+use Rattle.reporttext.proofs.Shown.{job-report}
 
 -- the columns that a report shows
 abbrev shown : Columns → Columns
@@ -30,8 +30,8 @@ result-shown s c = refl
 
 -- with space for 1,024, what is printed from a job's answer and columns is the report of its result
 module _ (j : Job) (limit : ℕ) (l : Lengths) (a : Answer) (c : Columns) where
-  pub report-printed : l ≡ space → summary a ≡ result j limit l .summary → c ≡ columnsOf j limit l
-      → reportOf (resultIn (summary a) (shown c)) ≡ reportOf (result j limit space)
+  pub report-printed : l ≡ wholeSpace → summary a ≡ result j limit l .summary → c ≡ columnsOf j limit l
+      → reportOf (resultIn (summary a) (shown c)) ≡ reportOf (result j limit wholeSpace)
   report-printed roomy answer columns =
       ap reportOf (result-shown (summary a) c)
       ∙ ap (λ (s : Summary). reportOf (resultIn s c)) answer

@@ -7,7 +7,7 @@ ghost use Rattle.model.specs.Job.{result};
 ghost use Rattle.checks.specs.Checked.{cellColumns, jobOf};
 ghost use Rattle.memory.specs.Memory.{page, pageLength};
 ghost use Rattle.reporttext.specs.Report.{reportOf};
-ghost use Rattle.jobtext.specs.Laid.{space};
+ghost use Rattle.jobtext.specs.Decided.{wholeSpace};
 
 // The report of a job: its length, 0 where it is longer than the lent bytes.
 pub fn decide_job(
@@ -29,11 +29,11 @@ pub fn decide_job(
 ) -> usize
     ensures length { λ r. ⌜ r ≡ pageLength (length (now (report .entry))) (reportOf (result (jobOf (cellColumns (now (rows .entry))
         (now (cols .entry)) (now (kinds .entry)) (now (wraps .entry)) (now (nums .entry)) (now (ats .entry)) (now (lens .entry)))
-        (now («region_rows» .entry)) (now («region_cols» .entry)) (now (pool .entry)) name rules start) limit space)) ⌝ }
+        (now («region_rows» .entry)) (now («region_cols» .entry)) (now (pool .entry)) name rules start) limit wholeSpace)) ⌝ }
     ensures bytes { λ _. ⌜ now (report .exit) ≡ page (length (now (report .entry))) (reportOf (result (jobOf (cellColumns
         (now (rows .entry)) (now (cols .entry)) (now (kinds .entry)) (now (wraps .entry)) (now (nums .entry)) (now (ats .entry))
         (now (lens .entry))) (now («region_rows» .entry)) (now («region_cols» .entry)) (now (pool .entry)) name rules start) limit
-        space)) ⌝ }
+        wholeSpace)) ⌝ }
 {
     let mut regions = [0u32; 1024];
     let mut ruleids = [0u32; 1024];

@@ -5,7 +5,7 @@ ghost use Rattle.model.specs.Ratio.{ratio, channel};
 ghost use Rattle.memory.specs.Memory.{page, pageLength};
 ghost use Rattle.reporttext.specs.Report.{reportOf};
 ghost use Rattle.jobtext.specs.Read.{read};
-ghost use Rattle.jobtext.specs.Laid.{decided};
+ghost use Rattle.jobtext.specs.Decided.{decided};
 
 #[no_mangle]
 pub extern "C" fn wavendiru_ratio(value: f64, minimum: f64, maximum: f64) -> u32

@@ -10,9 +10,15 @@ use lib.ListN.{length, drop, length-append}
 use borrow.Author.Tests.{lt-ltb}
 use Rattle.grammar.specs.Gram.{Got, Gram, Exactly}
 use Rattle.grammar.specs.Gram.Got.{got, bad}
-use Rattle.grammar.specs.Parts.{byteP, wordP, pick, choice, apart, word, isSecond, second, either}
+use Rattle.grammar.specs.Parts.{byteP, wordP, pick, choice, word, isSecond, second, either}
 use Rattle.grammar.proofs.Places.{past, within, at-head, from}
 use Rattle.grammar.proofs.Parts.{word-got, word-reads, word-exact, readAs-exact}
+
+-- two words that differ at some place, so that neither begins with the other
+unfoldable pub apart : List ℕ → List ℕ → Bool
+apart [] v = false
+apart (a ∷ w) [] = false
+apart (a ∷ w) (b ∷ v) = cond (eqb b a) (apart w v) true
 
 -- w is not read at a place
 pub record Unread (w : List ℕ) (s : List ℕ) (at : ℕ) : Type 0 where

@@ -10,11 +10,11 @@ use lib.ListN.{length, drop, length-append}
 use borrow.Author.Tests.{lt-ltb, le-ltb, ne-eqb, ltb-true, ltb-false, eqb-true, eqb-false}
 use Rattle.grammar.specs.Gram.{Exactly}
 use Rattle.grammar.specs.Gram.Got.{got, bad}
-use Rattle.grammar.specs.Parts.{then, byteP, apart}
+use Rattle.grammar.specs.Parts.{then, byteP}
 use Rattle.grammar.specs.Numbers.{digits, decimalText, decimalFrom, decimalAt, decimalP, decimal}
 use Rattle.grammar.proofs.Places.{past, bad-got, Steps, steps, from}
 use Rattle.grammar.proofs.Parts.{byte-got, byte-reads}
-use Rattle.grammar.proofs.Choices.{Never, word-apart}
+use Rattle.grammar.proofs.Choices.{apart, Never, word-apart}
 
 -- ---- digits
 

@@ -6,3 +6,5 @@ pub mod Decimals
 pub mod Hexadecimals
 pub mod Pairs
 pub mod Whole
+pub mod Feeds
+pub mod NumberFeeds

@@ -7,7 +7,7 @@ use mathlib.Core.List.{List, [], _∷_, _++_}
 use lib.Dec.{eqb}
 use lib.ListN.{length, take, drop}
 
--- what reading gives: a value and the place after its text, or the place of the first byte that cannot be read on
+-- what reading gives: a value and the place after its text, or a place in the line in which reading ends
 pub data Got (A : Type 0) : Type 0 where
   got : A → ℕ → Got A
   bad : ℕ → Got A

@@ -11,7 +11,7 @@ use Rattle.grammar.specs.Parts.{then, byteP}
 
 -- ---- decimals
 
--- the digits of n, k + 1 of them at most
+-- the digits of n, which is below 10^(k + 1)
 unfoldable pub digits : ℕ → ℕ → List ℕ
 digits zero n = (48 + n) ∷ []
 digits (suc k) n = cond (ltb n 10) ((48 + n) ∷ []) (digits k (n / 10) ++ ((48 + n % 10) ∷ []))

@@ -19,6 +19,15 @@ then (bad p) f = bad p
 
 -- ---- words
 
+abbrev pub space : ℕ
+space = 32
+
+abbrev pub comma : ℕ
+comma = 44
+
+abbrev pub lineFeed : ℕ
+lineFeed = 10
+
 -- the bytes of an ASCII text
 unfoldable pub bytes : String → List ℕ
 bytes none = []
@@ -144,9 +153,3 @@ second true = inr tt
 
 abbrev pub either : List ℕ → List ℕ → Gram Bool
 either w v = readAs isSecond second (choice w (word []) (word v))
-
--- two words that differ at some place, so that neither begins with the other
-unfoldable pub apart : List ℕ → List ℕ → Bool
-apart [] v = false
-apart (a ∷ w) [] = false
-apart (a ∷ w) (b ∷ v) = cond (eqb b a) (apart w v) true

@@ -9,12 +9,13 @@ use mathlib.Core.Option.{Option, none, some}
 use lib.ListN.{length}
 use Rattle.model.specs.declared.ConditionalComparison.{ConditionalComparison}
 use Rattle.model.specs.declared.DvOp.{DvOp}
+use Rattle.model.specs.declared.Priority.{Priority}
 use Rattle.model.specs.declared.Rgb.{Rgb}
 use Rattle.grammar.specs.Gram.Got.{got}
 use Rattle.grammar.specs.Parts.{bytes}
-use Rattle.jobtext.specs.Written.{Value, Operand, Kind}
+use Rattle.jobtext.specs.Written.{Value, Operand, Kind, RuleLine}
 use Rattle.jobtext.specs.Fields.{value}
-use Rattle.jobtext.specs.Rules.{kind}
+use Rattle.jobtext.specs.Rules.{kind, ruleLine}
 use Rattle.jobtext.proofs.Computing.{reading}
 
 -- ---- values: any bits, also those of a signalling not-a-number
@@ -52,13 +53,13 @@ error = refl
 
 -- ---- rules
 
-abbrev kindIs : String → Kind → Type 0
+abbrev pub kindIs : String → Kind → Type 0
 kindIs s k = kind .parse (bytes s) 0 ≡ got k (length (bytes s))
 
-abbrev rgb : ℕ → ℕ → ℕ → Rgb
+abbrev pub rgb : ℕ → ℕ → ℕ → Rgb
 rgb red green blue = record { red = red; green = green; blue = blue }
 
-abbrev refer : ℕ → ℕ → Bool → Bool → Option (List ℕ) → Operand
+abbrev pub refer : ℕ → ℕ → Bool → Bool → Option (List ℕ) → Operand
 refer row col rowAbsolute colAbsolute name =
     Operand.reference (record { row = row; col = col; rowAbsolute = rowAbsolute; colAbsolute = colAbsolute; name = name })
 
@@ -84,15 +85,54 @@ rank : kindIs "rank 4294967295 bottom percent 00000a\n" (Kind.rank 4294967295 tr
 unfolding reading
 rank = refl
 
+rank-top : kindIs "rank 3 top percent 00000a\n" (Kind.rank 3 false true (rgb 0 0 10))
+unfolding reading
+rank-top = refl
+
+rank-count : kindIs "rank 3 bottom count 00000a\n" (Kind.rank 3 true false (rgb 0 0 10))
+unfolding reading
+rank-count = refl
+
 mean : kindIs "mean below - - 00000a\n" (Kind.mean true (rgb 0 0 10))
 unfolding reading
 mean = refl
+
+mean-above : kindIs "mean above - - 00000a\n" (Kind.mean false (rgb 0 0 10))
+unfolding reading
+mean-above = refl
 
 same : kindIs "same unique - - 00000a\n" (Kind.same true (rgb 0 0 10))
 unfolding reading
 same = refl
 
+same-duplicate : kindIs "same duplicate - - 00000a\n" (Kind.same false (rgb 0 0 10))
+unfolding reading
+same-duplicate = refl
+
 expr : kindIs "expr 5 u r4294967295,65535,3,- 00000a\n"
     (Kind.expr ConditionalComparison.GreaterOrEqual Operand.unread (refer 4294967295 65535 true true none) (rgb 0 0 10))
 unfolding reading
 expr = refl
+
+-- ---- the flags of a rule line, and its range
+
+abbrev ruleIs : String → RuleLine → Type 0
+ruleIs s r = ruleLine .parse (bytes s) 0 ≡ got r (length (bytes s))
+
+abbrev flagged : Priority → Bool → Bool → RuleLine
+flagged priority stop imported =
+    record {
+      range = record { top = 1; left = 2; bottom = 3; right = 4 };
+      priority = priority;
+      stop = stop;
+      imported = imported;
+      kind = Kind.bar (rgb 0 0 10);
+    }
+
+stopping : ruleIs "1 2 3 4 - 1 0 bar 00000a - - -\n" (flagged Priority.Missing true false)
+unfolding reading
+stopping = refl
+
+imported : ruleIs "1 2 3 4 0 0 1 bar 00000a - - -\n" (flagged (Priority.Written 0) false true)
+unfolding reading
+imported = refl

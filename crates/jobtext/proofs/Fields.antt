@@ -11,18 +11,15 @@ use Rattle.model.specs.declared.ConditionalComparison.{ConditionalComparison}
 use Rattle.model.specs.declared.DvOp.{DvOp}
 use Rattle.model.specs.declared.Priority.{Priority}
 use Rattle.grammar.specs.Gram.{Gram, Exactly}
-use Rattle.grammar.specs.Parts.{bytes, apart, word, choice, either}
-use Rattle.grammar.specs.Numbers.{digitValue, isHex, decimal, pairs}
+use Rattle.grammar.specs.Parts.{space, comma, lineFeed, bytes, word, both, choice, readAs, either}
+use Rattle.grammar.specs.Numbers.{digitValue, isHex, decimal, hex, pairs}
 use Rattle.grammar.proofs.Parts.{word-exact, behind-exact, ended-exact, both-exact, readAs-exact, such-exact}
-use Rattle.grammar.proofs.Choices.{Never, choice-exact, either-exact, never-choice, never-word, never-behind}
+use Rattle.grammar.proofs.Choices.{apart, Never, choice-exact, either-exact, never-choice, never-word, never-behind}
 use Rattle.grammar.proofs.Decimals.{decimal-exact, never-decimal}
 use Rattle.grammar.proofs.Hexadecimals.{hex-exact}
 use Rattle.grammar.proofs.Pairs.{pairs-exact}
 use Rattle.jobtext.specs.Written.{Value, Operand}
 use Rattle.jobtext.specs.Fields.{
-  space,
-  comma,
-  lineFeed,
   count,
   row,
   col,
@@ -281,11 +278,14 @@ comparison-exact =
 
 -- ---- colours and priorities
 
+-- without what ends it
+pub channels-exact : Exactly (readAs toColour ofColour (both (hex 2) (both (hex 2) (hex 2))))
+channels-exact =
+    readAs-exact (both-exact (hex-exact 2) (both-exact (hex-exact 2) (hex-exact 2))) toColour ofColour (λ x _. refl) (λ c. refl)
+
 pub colour-exact : (end : List ℕ) → Exactly (colour end)
 unfolding colour
-colour-exact end =
-    ended-exact
-    (readAs-exact (both-exact (hex-exact 2) (both-exact (hex-exact 2) (hex-exact 2))) toColour ofColour (λ x _. refl) (λ c. refl)) end
+colour-exact end = ended-exact channels-exact end
 
 priority-back : (x : Unit {0} ⊎ ℕ) → ofPriority (toPriority x) ≡ x
 priority-back (inl x) = refl

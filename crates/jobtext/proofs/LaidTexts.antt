@@ -16,7 +16,8 @@ use Rattle.model.specs.Job.{Job, rulesOf}
 use Rattle.model.proofs.Computing.{jobs}
 use Rattle.grammar.specs.Parts.{bytes}
 use Rattle.jobtext.specs.Read.{ReadResult, read}
-use Rattle.jobtext.specs.Laid.{laid, decided}
+use Rattle.jobtext.specs.Laid.{laid}
+use Rattle.jobtext.specs.Decided.{decided}
 use Rattle.jobtext.proofs.Computing.{laying}
 use Rattle.jobtext.proofs.WorkedText.{lines, workedText, workedWith}
 
@@ -38,13 +39,13 @@ textsText =
     ∷ "1 2 3 4 5 0 1 cellis 1 r1,2,0,t46 r3,4,3,t47 0000ff"
     ∷ [])
 
-abbrev onJob : {A : Type 0} → (Job → A) → A → ReadResult → A
+abbrev pub onJob : {A : Type 0} → (Job → A) → A → ReadResult → A
 onJob f other (ReadResult.is j) = f (laid j)
 onJob f other ReadResult.tooLong = other
 onJob f other (ReadResult.badLine line) = other
 onJob f other (ReadResult.tooMany start) = other
 
-abbrev noColumns : CellColumns
+abbrev pub noColumns : CellColumns
 noColumns = record { rows = []; cols = []; kinds = []; wraps = []; nums = []; ats = []; lens = [] }
 
 pool : onJob (λ j. j .pool) [] (read textsText) ≡ bytes "ABCDEFG"

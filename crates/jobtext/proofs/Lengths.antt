@@ -1,6 +1,7 @@
--- What goes to the pool is at most half as long as the text that it is read from. Assumes nothing.
+-- What goes to the pool is at most half as long as the text that it is read from, and a column of places has one for each cell.
+-- Assumes nothing.
 use Prim.Native.Nat.{ℕ, zero, suc, _+_, _*_, _≤_}
-use mathlib.Core.Path.{_≡_, refl}
+use mathlib.Core.Path.{_≡_, refl, ap}
 use mathlib.Core.List.{List, [], _∷_}
 use mathlib.Core.Bool.{Bool, true, false}
 use mathlib.Core.Option.{Option, none, some}
@@ -16,7 +17,7 @@ use Rattle.jobtext.specs.Written.{Value, CellLine, Reference, Operand, K
 use Rattle.jobtext.specs.Fields.{textField, value, referenceName, reference, operand}
 use Rattle.jobtext.specs.Rules.{secondIf, cellIs, expr, kind, ruleLine}
 use Rattle.jobtext.specs.Text.{cellLine}
-use Rattle.jobtext.specs.Laid.{valueBytes, cellBytes, nameBytes, operandBytes, kindBytes, ruleBytes}
+use Rattle.jobtext.specs.Laid.{atsFrom, valueBytes, cellBytes, nameBytes, operandBytes, kindBytes, ruleBytes}
 
 pub pairs-length : (bs : List ℕ) → length bs * 2 ≡ length (pairsText bs)
 unfolding pairsText
@@ -115,3 +116,10 @@ rules-half zero [] o = omega arith
 rules-half (suc n) [] o = absurd o
 rules-half zero (r ∷ rs) o = absurd o
 rules-half (suc n) (r ∷ rs) o = let a = rule-half r (o .0) in let b = rules-half n rs (o .1) in simp length-append (omega arith)
+
+-- ---- columns
+
+pub ats-length : (u : ℕ) (cs : List CellLine) → length (atsFrom u cs) ≡ length cs
+unfolding atsFrom
+ats-length u [] = refl
+ats-length u (c ∷ cs) = ap suc (ats-length (u + length (valueBytes (c .value))) cs)

@@ -6,5 +6,8 @@ pub mod Reading
 pub mod Computing
 pub mod WorkedText
 pub mod AcceptedTexts
+pub mod OperatorTexts
 pub mod RefusedTexts
+pub mod EndsOfNumbers
 pub mod LaidTexts
+pub mod LaidRules

@@ -7,7 +7,7 @@ use mathlib.Core.List.{List}
 use native.Mathlib.Omega.{arith}
 use lib.Dec.{ltb, eqb}
 use lib.ListN.{length}
-use borrow.Author.Tests.{lt-ltb, le-ltb, eq-eqb, ltb-false, eqb-true}
+use borrow.Author.Tests.{lt-ltb, le-ltb, eq-eqb, ltb-true, ltb-false, eqb-true}
 use Rattle.grammar.specs.Gram.{Got, lineOf}
 use Rattle.grammar.specs.Gram.Got.{got, bad}
 use Rattle.grammar.specs.Parts.{following}
@@ -15,14 +15,8 @@ use Rattle.grammar.proofs.Parts.{following-exact, pair}
 use Rattle.grammar.proofs.Whole.{accepted, accepts, one-text}
 use Rattle.jobtext.specs.Written.{JobText}
 use Rattle.jobtext.specs.Text.{Head, head, bodyT, body, toJob, ofJob, job}
-use Rattle.jobtext.specs.Read.{ReadResult, maxText, over, closed, within, headed, sized, read}
+use Rattle.jobtext.specs.Read.{ReadResult, maxText, over, Readable, closed, headed, read}
 use Rattle.jobtext.proofs.Text.{head-exact, body-exact, job-back, job-exact}
-
--- a job that the reader takes: it has a text, which is not too long, and its counts are not over
-pub record Readable (j : JobText) : Type 0 where
-  pub ok : job .Ok j
-  pub counts : over (ofJob j .0) ≡ false
-  pub fits : length (job .text j) ≤ maxText
 
 -- ---- what is accepted
 
@@ -70,10 +64,12 @@ module _ (s : List ℕ) (j : JobText) where
           go2 false x e4 = absurd (bad-no-job (lineOf s p) j e4)
       go (bad p) f e3 = absurd (bad-no-job (lineOf s p) j e3)
 
-  taken-within : (h : Head) (q : ℕ) → head .parse s 0 ≡ got h q → within (over h) s h q ≡ ReadResult.is j → Taken s j
+  taken-within : (h : Head) (q : ℕ) → head .parse s 0 ≡ got h q
+      → cond (over h) (ReadResult.tooMany (h .start)) (closed s h (body h .parse s q)) ≡ ReadResult.is j → Taken s j
   taken-within h q e1 e = go (over h) refl e
     where
-      go : (x : Bool) → over h ≡ x → within x s h q ≡ ReadResult.is j → Taken s j
+      go : (x : Bool) → over h ≡ x
+          → cond x (ReadResult.tooMany (h .start)) (closed s h (body h .parse s q)) ≡ ReadResult.is j → Taken s j
       go true f e2 = absurd (many-no-job (h .start) j e2)
       go false f e2 = taken-closed h q e1 f e2
 
@@ -111,7 +107,8 @@ module _ (s : List ℕ) (j : JobText) where
   unfolding read
   read-accepted e = go (ltb maxText (length s)) refl e
     where
-      go : (x : Bool) → ltb maxText (length s) ≡ x → sized x s ≡ ReadResult.is j → Accepted
+      go : (x : Bool) → ltb maxText (length s) ≡ x → cond x ReadResult.tooLong (headed s (head .parse s 0)) ≡ ReadResult.is j
+          → Accepted
       go true f e1 = absurd (no-job ReadResult.tooLong j refl e1)
       go false f e1 = taken-accepted (ltb-false maxText (length s) f) (taken-headed e1)
 
@@ -131,8 +128,36 @@ text-read j r =
 pub job-text-one : (j k : JobText) → Readable j → Readable k → job .text j ≡ job .text k → j ≡ k
 job-text-one j k a b e = one-text job-exact j k (a .ok) (b .ok) e
 
--- ---- refusals
+-- ---- 10
 
 pub read-too-long : (s : List ℕ) → maxText < length s → read s ≡ ReadResult.tooLong
 unfolding read
 read-too-long s h = rw (lt-ltb maxText (length s) h)
+
+module _ (s : List ℕ) where
+  closed-short : (h : Head) (g : Got bodyT) → closed s h g ≡ ReadResult.tooLong → ⊥
+  unfolding closed
+  closed-short h (bad p) e = absurd (let no : _≡_ {A = ℕ} 0 1 = cc in omega arith)
+  closed-short h (got b p) e = go (eqb p (length s)) e
+    where
+      go : (x : Bool) → cond x (ReadResult.is (toJob (h, b))) (ReadResult.badLine (lineOf s p)) ≡ ReadResult.tooLong → ⊥
+      go true e = absurd (let no : _≡_ {A = ℕ} 0 1 = cc in omega arith)
+      go false e = absurd (let no : _≡_ {A = ℕ} 0 1 = cc in omega arith)
+
+  headed-short : (g : Got Head) → headed s g ≡ ReadResult.tooLong → ⊥
+  unfolding headed
+  headed-short (bad p) e = absurd (let no : _≡_ {A = ℕ} 0 1 = cc in omega arith)
+  headed-short (got h q) e = go (over h) e
+    where
+      go : (x : Bool) → cond x (ReadResult.tooMany (h .start)) (closed s h (body h .parse s q)) ≡ ReadResult.tooLong → ⊥
+      go true e = absurd (let no : _≡_ {A = ℕ} 0 1 = cc in omega arith)
+      go false e = closed-short h (body h .parse s q) e
+
+  pub read-long : read s ≡ ReadResult.tooLong → maxText < length s
+  unfolding read
+  read-long e = go (ltb maxText (length s)) refl e
+    where
+      go : (x : Bool) → ltb maxText (length s) ≡ x → cond x ReadResult.tooLong (headed s (head .parse s 0)) ≡ ReadResult.tooLong
+          → maxText < length s
+      go true f e = ltb-true maxText (length s) f
+      go false f e = absurd (headed-short (head .parse s 0) e)

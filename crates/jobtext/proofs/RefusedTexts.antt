@@ -21,13 +21,13 @@ small second cell region rule =
 abbrev second : String
 second = "9 8 1 1 1 t"
 
-abbrev cell : String
+abbrev pub cell : String
 cell = "0 0 0 e"
 
-abbrev region : String
+abbrev pub region : String
 region = "0 0"
 
-abbrev rule : String
+abbrev pub rule : String
 rule = "0 0 2 0 - 0 0 bar 00ff00 - - -"
 
 abbrev read11 : List ℕ → ℕ → Type 0

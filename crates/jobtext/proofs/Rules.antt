@@ -9,12 +9,11 @@ use lib.Dec.{T}
 use Rattle.model.specs.declared.Rgb.{Rgb}
 use Rattle.model.specs.Comparison.{usesSecond}
 use Rattle.grammar.specs.Gram.{Gram, Exactly}
-use Rattle.grammar.specs.Parts.{bytes, apart, behind, choice}
+use Rattle.grammar.specs.Parts.{space, bytes, behind, choice}
 use Rattle.grammar.proofs.Parts.{behind-exact, following-exact, both-exact, readAs-exact, only-exact}
-use Rattle.grammar.proofs.Choices.{Never, choice-exact, either-exact, never-choice, never-behind}
+use Rattle.grammar.proofs.Choices.{apart, Never, choice-exact, either-exact, never-choice, never-behind}
 use Rattle.grammar.proofs.Decimals.{decimal-exact}
 use Rattle.jobtext.specs.Written.{Operand, Kind}
-use Rattle.jobtext.specs.Fields.{space}
 use Rattle.jobtext.specs.Rules.{secondIf, cellIs, scale2, scale3, bar, rankT, rank, mean, same, exprT, expr, kindT, toKind, ofKind, kind, toRule, ofRule, ruleLine}
 use Rattle.jobtext.proofs.Fields.{
   row-exact,
@@ -29,7 +28,7 @@ use Rattle.jobtext.proofs.Fields.{
 
 -- ---- the parameters
 
-second-exact : (b : Bool) → Exactly (secondIf b)
+pub second-exact : (b : Bool) → Exactly (secondIf b)
 second-exact true = operand-exact
 second-exact false = only-exact Operand.unread (bytes "- ")
 

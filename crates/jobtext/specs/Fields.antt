@@ -12,18 +12,9 @@ use Rattle.model.specs.declared.Priority.{Priority}
 use Rattle.model.specs.declared.Rgb.{Rgb}
 use Rattle.model.specs.Readings.{finite}
 use Rattle.grammar.specs.Gram.{Gram}
-use Rattle.grammar.specs.Parts.{bytes, word, behind, ended, both, choice, readAs, such, either}
+use Rattle.grammar.specs.Parts.{space, comma, lineFeed, bytes, word, behind, ended, both, choice, readAs, such, either}
 use Rattle.grammar.specs.Numbers.{decimal, hex, pairs}
 use Rattle.jobtext.specs.Written.{Value, Reference, Operand}
-
-abbrev pub space : ℕ
-space = 32
-
-abbrev pub comma : ℕ
-comma = 44
-
-abbrev pub lineFeed : ℕ
-lineFeed = 10
 
 -- ---- numbers
 

@@ -15,11 +15,9 @@ use Rattle.model.specs.declared.Rule.{Rule}
 use Rattle.model.specs.declared.Rules.{Rules}
 use Rattle.model.specs.declared.SheetName.{SheetName}
 use Rattle.model.specs.declared.Span.{Span}
-use Rattle.model.specs.Sheet.{CellColumns}
-use Rattle.model.specs.Answer.{Result, refusal, refused}
-use Rattle.model.specs.Job.{Job, Lengths, result}
+use Rattle.model.specs.Sheet.{CellColumns, maxRules}
+use Rattle.model.specs.Job.{Job}
 use Rattle.jobtext.specs.Written.{Value, CellLine, Reference, Operand, Kind, RuleLine, JobText}
-use Rattle.jobtext.specs.Read.{ReadResult}
 
 -- the text bs at u in the pool
 abbrev pub spanAt : ℕ → List ℕ → Span
@@ -161,7 +159,7 @@ blankRule =
 
 unfoldable pub recordsFrom : ℕ → List RuleLine → Rules
 recordsFrom u rs =
-    record { records = rulesFrom u rs ++ replicate (64 - length rs) blankRule; number = length rs }
+    record { records = rulesFrom u rs ++ replicate (maxRules - length rs) blankRule; number = length rs }
 
 -- ---- the job
 
@@ -178,16 +176,3 @@ laid j =
       rules = recordsFrom rules (j .rules);
       start = j .start;
     }
-
--- ---- what a whole job comes to
-
--- space for 1,024 marks, regions and cells
-unfoldable pub space : Lengths
-space =
-    record { regions = 1024; rules = 1024; kinds = 1024; colours = 1024; ppms = 1024; barRules = 1024; barPpms = 1024; scratch = 1024 }
-
-unfoldable pub decided : ReadResult → Result
-decided (ReadResult.is j) = result (laid j) (j .limit) space
-decided ReadResult.tooLong = refused (refusal 10 0 0 0)
-decided (ReadResult.badLine line) = refused (refusal 11 line 0 0)
-decided (ReadResult.tooMany start) = refused (refusal 2 0 start 0)

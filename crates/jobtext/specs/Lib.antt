@@ -3,4 +3,7 @@ pub mod Fields
 pub mod Rules
 pub mod Text
 pub mod Read
+pub mod Lines
 pub mod Laid
+pub mod Said
+pub mod Decided

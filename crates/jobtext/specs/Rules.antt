@@ -8,10 +8,10 @@ use Rattle.model.specs.declared.Priority.{Priority}
 use Rattle.model.specs.declared.Rgb.{Rgb}
 use Rattle.model.specs.Comparison.{usesSecond}
 use Rattle.grammar.specs.Gram.{Gram}
-use Rattle.grammar.specs.Parts.{bytes, behind, following, both, choice, readAs, only, either}
+use Rattle.grammar.specs.Parts.{space, bytes, behind, following, both, choice, readAs, only, either}
 use Rattle.grammar.specs.Numbers.{decimal}
 use Rattle.jobtext.specs.Written.{Operand, Kind, RuleLine}
-use Rattle.jobtext.specs.Fields.{space, row, col, flag, operand, dvOp, comparison, colour, priority}
+use Rattle.jobtext.specs.Fields.{row, col, flag, operand, dvOp, comparison, colour, priority}
 
 -- ---- the parameters of each word
 

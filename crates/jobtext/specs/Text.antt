@@ -5,10 +5,26 @@ use mathlib.Core.List.{List}
 use lib.ListN.{length}
 use Rattle.model.specs.declared.CellCoordinate.{CellCoordinate}
 use Rattle.grammar.specs.Gram.{Gram}
-use Rattle.grammar.specs.Parts.{bytes, behind, following, both, times, readAs}
+use Rattle.grammar.specs.Parts.{space, lineFeed, bytes, behind, following, both, times, readAs}
 use Rattle.jobtext.specs.Written.{Value, CellLine, RuleLine, JobText}
-use Rattle.jobtext.specs.Fields.{space, lineFeed, count, row, col, wraps, textField, value}
+use Rattle.jobtext.specs.Fields.{count, row, col, wraps, textField, value}
 use Rattle.jobtext.specs.Rules.{ruleLine}
+
+-- Of each pair `toX`, `ofX` only `ofX` has to be read: it gives the text, and `toX` undoes it (proofs/Text.antt, Rules.antt, Fields.antt).
+
+-- ---- the lines of names
+
+abbrev pub headNames : List ℕ
+headNames = bytes "limit start cells regions rules name\n"
+
+abbrev pub cellNames : List ℕ
+cellNames = bytes "row col wraps value\n"
+
+abbrev pub regionNames : List ℕ
+regionNames = bytes "row col\n"
+
+abbrev pub ruleNames : List ℕ
+ruleNames = bytes "top left bottom right priority stop imported rule p1 p2 p3 p4\n"
 
 -- ---- the first two lines
 
@@ -37,10 +53,11 @@ toHead x =
 abbrev pub ofHead : Head → headT
 ofHead h = (h .limit, (h .start, (h .cells, (h .regions, (h .rules, h .name)))))
 
+abbrev pub secondLine : Gram Head
+secondLine = readAs toHead ofHead (both count (both count (both count (both count (both count (textField lineFeed))))))
+
 unfoldable pub head : Gram Head
-head =
-    behind (bytes "limit start cells regions rules name\n")
-    (readAs toHead ofHead (both count (both count (both count (both count (both count (textField lineFeed)))))))
+head = behind headNames secondLine
 
 -- ---- the lines of cells and regions
 
@@ -64,17 +81,23 @@ regionLine = readAs toRegion ofRegion (both (row space) (col lineFeed))
 
 -- ---- the whole
 
-abbrev pub bodyT : Type 0
-bodyT = List CellLine × (List CellCoordinate × List RuleLine)
+abbrev pub tailT : Type 0
+tailT = List CellCoordinate × List RuleLine
 
--- the sections, with as many lines as the second line says
-unfoldable pub body : Head → Gram bodyT
-body h =
-    behind (bytes "row col wraps value\n")
-    (both (times (h .cells) cellLine)
-    (behind (bytes "row col\n")
-    (both (times (h .regions) regionLine)
-    (behind (bytes "top left bottom right priority stop imported rule p1 p2 p3 p4\n") (times (h .rules) ruleLine)))))
+-- the sections of regions and rules, with so many lines
+unfoldable pub tail : ℕ → ℕ → Gram tailT
+tail regions rules = behind regionNames (both (times regions regionLine) (behind ruleNames (times rules ruleLine)))
+
+abbrev pub bodyT : Type 0
+bodyT = List CellLine × tailT
+
+-- all sections
+unfoldable pub bodyOf : ℕ → ℕ → ℕ → Gram bodyT
+bodyOf cells regions rules = behind cellNames (both (times cells cellLine) (tail regions rules))
+
+-- with as many lines as the second line says
+abbrev pub body : Head → Gram bodyT
+body h = bodyOf (h .cells) (h .regions) (h .rules)
 
 abbrev pub toJob : Head × bodyT → JobText
 toJob x =

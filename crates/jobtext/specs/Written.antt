@@ -62,3 +62,8 @@ pub record JobText : Type 0 where
   pub cells : List CellLine
   pub regions : List CellCoordinate
   pub rules : List RuleLine
+
+-- a job with another limit
+abbrev pub withLimit : ℕ → JobText → JobText
+withLimit limit j =
+    record { limit = limit; start = j .start; name = j .name; cells = j .cells; regions = j .regions; rules = j .rules }

@@ -12,7 +12,7 @@ use Rattle.model.specs.declared.ConditionalOperand.{ConditionalOperand}
 use Rattle.model.specs.declared.CfRule.{CfRule}
 use Rattle.model.specs.declared.Rule.{Rule}
 use Rattle.model.specs.declared.Rules.{Rules}
-use Rattle.model.specs.Sheet.{Sheet, CellColumns, maxRow, maxCol, cellsFrom, regionsFrom}
+use Rattle.model.specs.Sheet.{Sheet, CellColumns, maxRow, maxCol, maxCells, maxRegions, maxRules, maxPool, cellsFrom, regionsFrom}
 use Rattle.model.specs.Comparison.{usesSecond}
 use Rattle.model.specs.Run.{Run, run}
 use Rattle.model.specs.Answer.{Summary, Result, refusal, refused, limited}
@@ -121,7 +121,8 @@ module _ (j : Job) where
       && eqb (length (j .regionCols)) regionCount)
 
   unfoldable pub tooMany : Bool
-  tooMany = ltb 1024 cellCount || ltb 1024 regionCount || ltb 64 (j .rules .number) || ltb 65_536 (length (j .pool))
+  tooMany =
+      ltb maxCells cellCount || ltb maxRegions regionCount || ltb maxRules (j .rules .number) || ltb maxPool (length (j .pool))
 
   -- a refusal ahead of any charge: place, S, 0
   unfoldable pub refuseAt : ℕ → Option ℕ → Option Summary

@@ -74,7 +74,11 @@ hasBar p = leb 3 (p .kind)
 unfoldable pub painted : ℕ → Bool → RegionState → Paint → RegionState
 painted rule stop state p =
     let first = hasBar p && eqb (state .barRule) 0 in
-    record { stopped = stop; barRule = cond first (suc rule) (state .barRule); barPpm = cond first (p .ppm) (state .barPpm) }
+    record {
+      stopped = state .stopped || stop;
+      barRule = cond first (suc rule) (state .barRule);
+      barPpm = cond first (p .ppm) (state .barPpm);
+    }
 
 unfoldable pub afterwards : ℕ → Bool → RegionState → Outcome → RegionState
 afterwards rule stop state Outcome.Stopped = state

@@ -32,6 +32,19 @@ maxRow = 1_048_575
 abbrev pub maxCol : ℕ
 maxCol = 16_383
 
+-- the most cells, regions and rules of a job, and the most bytes of its pool
+abbrev pub maxCells : ℕ
+maxCells = 1024
+
+abbrev pub maxRegions : ℕ
+maxRegions = 1024
+
+abbrev pub maxRules : ℕ
+maxRules = 64
+
+abbrev pub maxPool : ℕ
+maxPool = 65_536
+
 -- the bytes of a text
 unfoldable pub textAt : List ℕ → Span → List ℕ
 textAt pool s = take (s .len) (drop (s .at) pool)

@@ -4,7 +4,7 @@ use mathlib.Core.Path.{_≡_, refl}
 use mathlib.Core.List.{[], _∷_, _++_}
 use Rattle.memory.specs.Memory.{allOr}
 use Rattle.grammar.specs.Numbers.{decimalText, digits, hexDigit, hexDigits}
-use Rattle.put.specs.Laid.{last, Laid, keptLength, keptBytes}
+use Rattle.put.specs.Put.{last, Laid, keptLength, keptBytes}
 
 -- ---- bytes
 

@@ -12,7 +12,7 @@ use lib.Seq.{take-all, take-suc-set, take-append-seam, sets-eq}
 use borrow.Author.Tests.{leb-true, leb-false, le-leb, lt-leb}
 use Rattle.memory.specs.Memory.{page, pageLength}
 use Rattle.memory.proofs.Laws.{text-fits, text-over}
-use Rattle.put.specs.Laid.{last, Laid, keptLength, keptBytes}
+use Rattle.put.specs.Put.{last, Laid, keptLength, keptBytes}
 use Rattle.put.proofs.Laws.{laid-length, fits-next, fits-bytes, over-next}
 
 -- ---- zeros from a place on

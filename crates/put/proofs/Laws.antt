@@ -11,7 +11,7 @@ use lib.Seq.{sets}
 use borrow.Author.Tests.{leb-true, leb-false, le-leb, lt-leb}
 use Rattle.memory.specs.Memory.{allOrZeros}
 use Rattle.memory.proofs.Laws.{all-fits, all-over, all-append, length-all}
-use Rattle.put.specs.Laid.{last, placeAfter, Laid, Ready}
+use Rattle.put.specs.Put.{last, placeAfter, Laid, Ready}
 
 -- ---- a piece
 

@@ -6,7 +6,7 @@ ghost use mathlib.Core.List.{[], _∷_, _++_};
 ghost use lib.ListN.{length};
 ghost use Rattle.memory.specs.Memory.{fits};
 ghost use Rattle.grammar.specs.Numbers.{decimalText, hexDigit, hexDigits};
-ghost use Rattle.put.specs.Laid.{Laid, keptLength, keptBytes};
+ghost use Rattle.put.specs.Put.{Laid, keptLength, keptBytes};
 
 // The place after a piece that does not fit.
 pub const LAST: usize = 18446744073709551615;

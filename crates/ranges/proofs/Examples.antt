@@ -1,5 +1,4 @@
 -- What `gather` leaves, computed: the values one short, exact and longer, and the count, which is the same each time. Assumes nothing.
-use Prim.Native.Nat.{ℕ}
 use mathlib.Core.Path.{_≡_, refl}
 use mathlib.Core.Bool.{true}
 use mathlib.Core.List.{List, [], _∷_}

@@ -15,7 +15,7 @@ use Rattle.celllines.proofs.Sections.{Long}
 use Rattle.celllines.proofs.Whole.{blank-long}
 use Rattle.reader.specs.declared.ReadJob.{ReadJob}
 use Rattle.reader.specs.Held.{refusedAs, takenAs, Held, held, fitsIn, laidIn, cleared, readJob, heldAfter}
-use Rattle.reader.specs.Bodies.{Left}
+use Rattle.reader.specs.Contracts.{Left}
 
 -- a memory that is refused
 none-held : (j : Job) (h : Held) → laidIn false j h ≡ cleared h

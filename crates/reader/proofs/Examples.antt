@@ -2,7 +2,7 @@
 -- each memory one short in turn; and on a refused text. Assumes nothing.
 use Prim.Native.Nat.{ℕ}
 use mathlib.Core.Path.{_≡_, refl}
-use mathlib.Core.List.{List, [], _∷_}
+use mathlib.Core.List.{[], _∷_}
 use lib.ListN.{replicate}
 use Rattle.memory.specs.Memory.{allOr}
 use Rattle.jobtext.specs.Written.{Value, JobText}

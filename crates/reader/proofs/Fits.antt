@@ -1,8 +1,8 @@
 -- When a job fits what is lent: the numbers that were read against the lengths are `fitsIn` of the job as it is laid. Assumes nothing.
-use Prim.Native.Nat.{ℕ, suc, _+_, _≤_}
+use Prim.Native.Nat.{ℕ, _+_, _≤_}
 use mathlib.Core.Path.{_≡_, refl, sym, ap, _∙_}
 use mathlib.Core.Bool.{Bool, true, false, _&&_}
-use mathlib.Core.List.{List, [], _∷_, _++_}
+use mathlib.Core.List.{List, _++_}
 use native.Mathlib.Omega.{arith}
 use lib.Dec.{leb}
 use lib.ListN.{length, length-append, length-map}
@@ -11,11 +11,11 @@ use Rattle.memory.specs.Memory.{allOrZeros, pageOf}
 use Rattle.memory.proofs.Laws.{all-append}
 use Rattle.grammar.proofs.Parts.{times-length}
 use Rattle.fields.proofs.Laws.{clash}
-use Rattle.jobtext.specs.Written.{CellLine}
-use Rattle.jobtext.specs.Text.{Head, bodyT, cellLine, regionLine, body, toJob}
-use Rattle.jobtext.specs.Laid.{valueBytes, cellBytes, ruleBytes, atsFrom, columnsFrom, laid}
+use Rattle.jobtext.specs.Text.{Head, tail, bodyT, bodyOf, cellLine, regionLine, body, toJob}
+use Rattle.jobtext.specs.Laid.{cellBytes, ruleBytes, columnsFrom, laid}
+use Rattle.jobtext.proofs.Lengths.{ats-length}
 use Rattle.reader.specs.Held.{Held, fitsIn}
-use Rattle.reader.specs.Bodies.{columnsFit, columnsIn}
+use Rattle.reader.specs.Contracts.{columnsFit, columnsIn}
 
 -- ---- the tests one by one
 
@@ -71,11 +71,6 @@ fitted cells regions rows cols kinds wraps nums ats lens regionRows regionCols e
 
 -- ---- the lengths of a job as it is laid
 
-pub ats-length : (u : ℕ) (cs : List CellLine) → length (atsFrom u cs) ≡ length cs
-unfolding atsFrom
-ats-length u [] = refl
-ats-length u (c ∷ cs) = ap suc (ats-length (u + length (valueBytes (c .value))) cs)
-
 module _ (k : Head) (b : bodyT) where
   pub pool-number : length (laid (toJob (k, b)) .pool) ≡ length (k .name) + length (cellBytes (b .0)) + length (ruleBytes (b .1 .1))
   unfolding laid
@@ -83,11 +78,11 @@ module _ (k : Head) (b : bodyT) where
 
   module _ (c : body k .Ok b) where
     pub cells-number : length (b .0) ≡ k .cells
-    unfolding body
+    unfolding bodyOf tail
     cells-number = times-length (cellLine .Ok) (k .cells) (b .0) (c .0)
 
     pub regions-number : length (b .1 .0) ≡ k .regions
-    unfolding body
+    unfolding bodyOf tail
     regions-number = times-length (regionLine .Ok) (k .regions) (b .1 .0) (c .1 .0)
 
   -- the tests on the numbers that were read are those on the job

@@ -1,25 +1,14 @@
 -- The number of the line that a place stands in, byte by byte. Assumes nothing.
-use Prim.Native.Nat.{ℕ, suc, _+_, _≤_, _<_}
+use Prim.Native.Nat.{ℕ, _+_, _≤_, _<_}
 use mathlib.Core.Path.{_≡_, refl, ap, _∙_}
-use mathlib.Core.Bool.{Bool, true, false, cond}
-use mathlib.Core.List.{List, [], _∷_, _++_}
+use mathlib.Core.List.{List, [], _∷_}
 use native.Mathlib.Omega.{arith}
 use native.Mathlib.Numerals.{add-one}
-use lib.Dec.{eqb}
 use lib.ListN.{length, take, getD}
 use lib.Seq.{take-suc, take-all, take-length}
 use borrow.Author.Tests.{eq-eqb, ne-eqb}
 use Rattle.grammar.specs.Gram.{lineFeeds, lineOf}
-
-feeds-append : (a b : List ℕ) → lineFeeds (a ++ b) ≡ lineFeeds a + lineFeeds b
-unfolding lineFeeds
-feeds-append [] b = omega arith
-feeds-append (x ∷ a) b = go (eqb x 10) (feeds-append a b)
-  where
-    go : (c : Bool) → lineFeeds (a ++ b) ≡ lineFeeds a + lineFeeds b
-        → cond c (suc (lineFeeds (a ++ b))) (lineFeeds (a ++ b)) ≡ cond c (suc (lineFeeds a)) (lineFeeds a) + lineFeeds b
-    go true h = omega arith
-    go false h = h
+use Rattle.grammar.proofs.Feeds.{feeds-append}
 
 module _ (s : List ℕ) where
   pub line-first : 1 ≡ lineOf s 0

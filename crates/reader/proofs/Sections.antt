@@ -19,7 +19,7 @@ use Rattle.fields.specs.Room.{Room}
 use Rattle.fields.proofs.Laws.{clash, word-read, word-none}
 use Rattle.fields.proofs.Room.{room-on, room-past, room-roomy}
 use Rattle.jobtext.specs.Written.{CellLine}
-use Rattle.jobtext.specs.Text.{cellLine}
+use Rattle.jobtext.specs.Text.{cellLine, tailT, tail, bodyOf}
 use Rattle.jobtext.specs.Laid.{cellBytes, ruleBytes}
 use Rattle.jobtext.proofs.Text.{cell-exact}
 use Rattle.jobtext.proofs.Lengths.{cells-half}
@@ -29,7 +29,7 @@ use Rattle.celllines.specs.Columns.{allFit, poolAfter as cellsPool}
 use Rattle.rulelines.specs.declared.RuleSection.{RuleSection}
 use Rattle.rulelines.specs.RuleSections.{noSection}
 use Rattle.reader.specs.Held.{Held, held}
-use Rattle.reader.specs.Bodies.{tailT, tail, IsTail, bodyOf, columnsIn, IsBody}
+use Rattle.reader.specs.Contracts.{IsTail, columnsIn, IsBody}
 use Rattle.reader.proofs.Fits.{and-first, and-second, fitted}
 
 -- the names above the cells

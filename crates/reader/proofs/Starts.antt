@@ -22,7 +22,7 @@ use Rattle.jobtext.proofs.Lengths.{pairs-length}
 use Rattle.headlines.specs.declared.ReadHead.{ReadHead}
 use Rattle.headlines.specs.Heads.{headOf, headPooled}
 use Rattle.reader.specs.declared.Start.{Start}
-use Rattle.reader.specs.Bodies.{noStart, started, startOf, startIf, Named}
+use Rattle.reader.specs.Contracts.{noStart, started, startOf, startIf, Named}
 
 -- ---- three tests, one after the other, of which the first two came to `o`
 

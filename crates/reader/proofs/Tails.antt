@@ -17,7 +17,7 @@ use Rattle.fields.proofs.Laws.{clash, word-read, word-none}
 use Rattle.fields.proofs.Room.{room-on, room-roomy}
 use Rattle.jobtext.specs.Written.{RuleLine}
 use Rattle.jobtext.specs.Rules.{ruleLine}
-use Rattle.jobtext.specs.Text.{regionLine}
+use Rattle.jobtext.specs.Text.{regionLine, tailT, tail}
 use Rattle.jobtext.proofs.Text.{region-exact}
 use Rattle.regionlines.specs.declared.RegionSection.{RegionSection}
 use Rattle.regionlines.specs.Regions.{rowsAfter, colsAfter}
@@ -25,7 +25,7 @@ use Rattle.regionlines.specs.Regions.{sectionOf as regionsOf}
 use Rattle.rulelines.specs.declared.RuleSection.{RuleSection}
 use Rattle.rulelines.specs.RuleSections.{noSection, rulesAt, poolAfter}
 use Rattle.rulelines.specs.RuleSections.{sectionOf as rulesOf}
-use Rattle.reader.specs.Bodies.{tailT, tail, IsTail}
+use Rattle.reader.specs.Contracts.{IsTail}
 
 -- the names above the regions, and those above the rules
 abbrev pub regionNames : List ℕ

@@ -14,7 +14,7 @@ use Rattle.model.specs.Sheet.{CellColumns}
 use Rattle.grammar.specs.Gram.{Got, lineOf}
 use Rattle.grammar.specs.Gram.Got.{got, bad}
 use Rattle.jobtext.specs.Written.{CellLine}
-use Rattle.jobtext.specs.Text.{Head, bodyT, head, body, toJob}
+use Rattle.jobtext.specs.Text.{Head, bodyT, head, bodyOf, body, toJob}
 use Rattle.jobtext.specs.Read.{ReadResult, maxText, over, closed, headed, read}
 use Rattle.jobtext.specs.Laid.{cellBytes, ruleBytes, columnsFrom, laid}
 use Rattle.jobtext.proofs.Text.{body-exact}
@@ -24,19 +24,7 @@ use Rattle.rulelines.specs.RuleSections.{sectionOf as rulesOf}
 use Rattle.reader.specs.declared.Start.{Start}
 use Rattle.reader.specs.declared.ReadJob.{ReadJob}
 use Rattle.reader.specs.Held.{Held, held, refusedAs, takenAs, fitsIn, readJob}
-use Rattle.reader.specs.Bodies.{
-  tail,
-  bodyOf,
-  columnsIn,
-  IsBody,
-  noStart,
-  started,
-  startOf,
-  startIf,
-  finishedIf,
-  finished,
-  Left,
-}
+use Rattle.reader.specs.Contracts.{columnsIn, IsBody, noStart, started, startOf, startIf, finishedIf, finished, Left}
 use Rattle.reader.proofs.Starts.{Begun}
 use Rattle.reader.proofs.Fits.{cells-number, regions-number, pool-number, fits-laid, pool-laid}
 
@@ -112,10 +100,6 @@ answer-laid k b c q size p s =
 
 -- ---- the sections
 
-body-of : (k : Head) (s : List ℕ) (q : ℕ) → bodyOf (k .cells) (k .regions) (k .rules) .parse s q ≡ body k .parse s q
-unfolding bodyOf tail body
-body-of k s q = refl
-
 module _ (s : List ℕ) (k : Head) (q : ℕ) (d : CellColumns) (rows cols pool : List ℕ) where
   abbrev lent : Held
   lent = held d rows cols pool
@@ -183,9 +167,7 @@ module _ {s : List ℕ} {t : Start} {pool after : List ℕ} (b : Begun s t pool 
       subst (λ (t : Start). IsBody (bodyOf (t .cells) (t .regions) (t .rules) .parse s (t .next)) (t .name) (held d rows cols after) r e)
       (b .is) i in
       let g : IsBody (body k .parse s q) (length (k .name)) (held d rows cols name) r e =
-      subst (λ (g : Got bodyT). IsBody g (length (k .name)) (held d rows cols name) r e) (body-of k s q)
-      (subst (λ (l : List ℕ). IsBody (bodyOf (k .cells) (k .regions) (k .rules) .parse s q) (length (k .name)) (held d rows cols l) r e)
-      (b .named) f) in
+      subst (λ (l : List ℕ). IsBody (body k .parse s q) (length (k .name)) (held d rows cols l) r e) (b .named) f in
       subst (λ (z : ReadResult). Closed s k q d rows cols pool z x e) (sym reads)
       (closed-answer s k q d rows cols pool r e (o ∙ ap (λ (t : Start). columnsIn (t .cells) (t .regions) d rows cols) (b .is))
       (y ∙ ap (λ (t : Start). finished s t r fits) (b .is)) g)

@@ -1,2 +1,2 @@
 pub mod Held
-pub mod Bodies
+pub mod Contracts

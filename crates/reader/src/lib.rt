@@ -13,10 +13,10 @@ ghost use lib.ListN.{length};
 ghost use Rattle.grammar.specs.Gram.{lineOf};
 ghost use Rattle.fields.specs.Room.{Room};
 ghost use Rattle.celllines.specs.Columns.{columns};
-ghost use Rattle.jobtext.specs.Text.{head};
+ghost use Rattle.jobtext.specs.Text.{head, tail, bodyOf};
 ghost use Rattle.jobtext.specs.Read.{maxText, read};
 ghost use Rattle.reader.specs.Held.{refusedAs, readJob, held, heldAfter};
-ghost use Rattle.reader.specs.Bodies.{tail, IsTail, bodyOf, IsBody, columnsFit, noStart, startIf, Named, finished, Left};
+ghost use Rattle.reader.specs.Contracts.{IsTail, IsBody, columnsFit, noStart, startIf, Named, finished, Left};
 
 // A job as it was read, with its numbers of cells and regions and up to where the pool is used; or the number of the refusal, with the
 // line that is malformed or the starting count.

@@ -2,9 +2,9 @@
 -- the mark and with one that does not; the report of a refusal, and of the number 0. Assumes nothing.
 use Prim.Native.Nat.{ℕ}
 use mathlib.Core.Path.{_≡_, refl}
-use mathlib.Core.Bool.{Bool, true, false}
+use mathlib.Core.Bool.{true, false}
 use mathlib.Core.List.{List, [], _∷_, _++_}
-use lib.ListN.{length, replicate}
+use lib.ListN.{replicate}
 use Rattle.memory.specs.Memory.{allOr, pageOf, pageLength}
 use Rattle.grammar.specs.Parts.{bytes}
 use Rattle.model.specs.declared.Answer.{Answer}
@@ -12,7 +12,7 @@ use Rattle.model.specs.Answer.{summary, refusal}
 use Rattle.model.specs.Job.{markSpace}
 use Rattle.model.specs.Columns.{Columns}
 use Rattle.reporttext.specs.Report.{summaryText, reportOf}
-use Rattle.reporttext.specs.Held.{printed, resultIn, holdsMarks}
+use Rattle.reporttext.specs.Shown.{printed, resultIn, holdsMarks}
 use Rattle.reporttext.proofs.Computing.{lines}
 use Rattle.report.specs.Printed.{printedLength, isRefusal}
 

@@ -7,11 +7,11 @@ use mathlib.Core.Path.{_≡_}
 use mathlib.Core.List.{List, [], _++_}
 use lib.ListN.{length}
 use borrow.Author.Tests.{eq-eqb, ne-eqb}
-use Rattle.grammar.specs.Parts.{timesText}
-use Rattle.put.specs.Laid.{last, Laid}
+use Rattle.grammar.specs.Parts.{space, lineFeed, timesText}
+use Rattle.put.specs.Put.{last, Laid}
 use Rattle.put.proofs.Laws.{LaidLeft, left-more}
-use Rattle.reporttext.specs.Report.{space, lineFeed, number, markLine, barLine, barLines}
-use Rattle.reporttext.specs.Held.{markIn, marksIn, barOf, barIn, barsIn}
+use Rattle.reporttext.specs.Report.{number, markLine, barLine, barLines}
+use Rattle.reporttext.specs.Shown.{markIn, marksIn, barOf, barIn, barsIn}
 
 -- ---- marks
 

@@ -11,9 +11,9 @@ use Rattle.model.specs.Job.{markSpace}
 use Rattle.model.specs.Columns.{Columns}
 use Rattle.memory.specs.Memory.{pageOf, page, pageLength}
 use Rattle.memory.proofs.Laws.{page-refused}
-use Rattle.put.specs.Laid.{keptLength, keptBytes}
+use Rattle.put.specs.Put.{keptLength, keptBytes}
 use Rattle.put.proofs.Keeping.{Page, none-kept, kept-whole}
-use Rattle.reporttext.specs.Held.{holdsMarks}
+use Rattle.reporttext.specs.Shown.{holdsMarks}
 use Rattle.report.specs.Printed.{printedLength}
 
 -- r bytes of f are the report ts, if it is printed at all

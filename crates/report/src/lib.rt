@@ -16,10 +16,10 @@ ghost use lib.ListN.{length};
 ghost use Rattle.memory.specs.Memory.{pageOf};
 ghost use Rattle.model.specs.Answer.{refusal, summary};
 ghost use Rattle.grammar.specs.Parts.{timesText};
-ghost use Rattle.put.specs.Laid.{Laid, Ready};
+ghost use Rattle.put.specs.Put.{Laid, Ready};
 ghost use Rattle.reporttext.specs.Report.{number, colour, dash, orDash, paintText, markLine, barLine, barLines};
 ghost use Rattle.reporttext.specs.Report.{summaryText, marksText, barsText, reportOf};
-ghost use Rattle.reporttext.specs.Held.{markOf, markIn, marksIn, barOf, barsIn, printed, resultIn, holdsMarks};
+ghost use Rattle.reporttext.specs.Shown.{markOf, markIn, marksIn, barOf, barsIn, printed, resultIn, holdsMarks};
 ghost use Rattle.report.specs.Figures.{summaryOf};
 ghost use Rattle.report.specs.Printed.{printedLength, isRefusal};
 

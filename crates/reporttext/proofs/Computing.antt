@@ -2,7 +2,7 @@
 use Rattle.grammar.specs.Parts as Parts
 use Rattle.grammar.specs.Numbers as Numbers
 use Rattle.reporttext.specs.Report as Report
-use Rattle.reporttext.specs.Held as Held
+use Rattle.reporttext.specs.Shown as Shown
 use Rattle.model.specs.Run as Run
 use Rattle.model.specs.Ratio as Ratio
 use Rattle.model.specs.Answer as Answer
@@ -12,5 +12,5 @@ unfolding Parts.bytes Parts.timesText Numbers.digits Numbers.hexDigit Numbers.he
     Answer.refusal Answer.answer Answer.refused
     Report.summaryNames Report.summaryLine Report.markNames Report.hasColour Report.paintText Report.markLine Report.barNames
     Report.barLine Report.barLines Report.summaryText Report.marksText Report.barsText Report.reportOf
-    Held.marksIn Held.barsIn Held.resultIn
+    Shown.marksIn Shown.barsIn Shown.resultIn
 lines = tt

@@ -1,9 +1,8 @@
 pub mod Computing
 pub mod Printed
 pub mod Colours
-pub mod Held
+pub mod Shown
 pub mod Painted
 pub mod Runs
 pub mod Jobs
 pub mod Longest
-pub mod Attained

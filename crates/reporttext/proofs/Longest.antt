@@ -23,7 +23,7 @@ use Rattle.grammar.proofs.Decimals.{top}
 use Rattle.reporttext.specs.Report as Report
 use Rattle.reporttext.specs.Report.{orDash, hasColour, paintText, markLine, barLine, barLines, summaryText, reportOf}
 use Rattle.reporttext.specs.Longest.{longest, Longest}
-use Rattle.reporttext.proofs.Held.{report-answered, report-refused}
+use Rattle.reporttext.proofs.Shown.{report-answered, report-refused}
 use Rattle.reporttext.proofs.Painted.{SmallPaint}
 use Rattle.reporttext.proofs.Runs.{SmallMark, SmallMarks, SmallState, SmallStates, spare, marksSpare, barSpare, barsSpare}
 use Rattle.reporttext.proofs.Jobs.{SmallJob, small-job}

@@ -1,3 +1,3 @@
 pub mod Report
-pub mod Held
+pub mod Shown
 pub mod Longest

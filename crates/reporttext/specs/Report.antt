@@ -8,16 +8,10 @@ use Rattle.model.specs.declared.Paint.{Paint}
 use Rattle.model.specs.Ratio.{barCells}
 use Rattle.model.specs.Run.{Mark, RegionState, hasBar}
 use Rattle.model.specs.Answer.{Summary, Result}
-use Rattle.grammar.specs.Parts.{bytes, timesText}
+use Rattle.grammar.specs.Parts.{space, lineFeed, bytes, timesText}
 use Rattle.grammar.specs.Numbers.{decimalText, hexDigits}
 
 -- ---- fields, each with the byte that ends it
-
-abbrev pub space : ℕ
-space = 32
-
-abbrev pub lineFeed : ℕ
-lineFeed = 10
 
 abbrev pub number : ℕ → ℕ → List ℕ
 number end n = decimalText n ++ (end ∷ [])
@@ -77,6 +71,11 @@ barLine region s =
 unfoldable pub barLines : ℕ → List RegionState → List ℕ
 barLines region [] = []
 barLines region (s ∷ states) = barLine region s ++ barLines (suc region) states
+
+-- how many regions have a bar
+unfoldable pub barCount : List RegionState → ℕ
+barCount [] = 0
+barCount (s ∷ states) = let rest = barCount states in cond (eqb (s .barRule) 0) rest (suc rest)
 
 -- ---- the report
 

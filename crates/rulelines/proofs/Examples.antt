@@ -13,7 +13,6 @@ use Rattle.grammar.specs.Gram.{Got}
 use Rattle.grammar.specs.Gram.Got.{got, bad}
 use Rattle.jobtext.specs.Written.{Operand, Kind, RuleLine}
 use Rattle.jobtext.specs.Laid.{nameBytes, operandBytes, kindBytes, ruleBytes}
-use Rattle.rulelines.specs.declared.RuleSection.{RuleSection}
 use Rattle.rulelines.specs.RuleSections.{sectionOf, poolAfter}
 
 abbrev black : Rgb

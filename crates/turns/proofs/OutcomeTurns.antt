@@ -76,13 +76,17 @@ stop-none stop region Outcome.Passed h flags = refl
 stop-none stop region Outcome.Unresolved h flags = refl
 stop-none stop region (Outcome.Painted p) h flags = absurd (miss unpainted 3 tt h)
 
+length-set-if : (stop : Bool) (i : ℕ) (flags : List ℕ) → length (cond stop (set flags i 1) flags) ≡ length flags
+length-set-if true i flags = length-set flags i 1
+length-set-if false i flags = refl
+
 module _ (stop : Bool) where
   length-stop : (i : ℕ) (o : Outcome) (flags : List ℕ) → length (stopAt stop i o flags) ≡ length flags
   unfolding stopAt
   length-stop i Outcome.Stopped flags = refl
   length-stop i Outcome.Passed flags = refl
   length-stop i Outcome.Unresolved flags = refl
-  length-stop i (Outcome.Painted p) flags = length-set flags i (cond stop 1 0)
+  length-stop i (Outcome.Painted p) flags = length-set-if stop i flags
 
   pub length-stops : (i : ℕ) (os : List Outcome) (flags : List ℕ) → length (stops stop i os flags) ≡ length flags
   unfolding stops

@@ -2,12 +2,12 @@
 -- rule what `allAfterwards` leaves, and at the start those of regions that no rule has touched. Assumes nothing.
 use Prim.Native.Nat.{ℕ, zero, suc, _+_, _≤_, _<_}
 use mathlib.Core.Path.{_≡_, refl, sym, ap, _∙_}
-use mathlib.Core.Bool.{Bool, true, false, cond, not, _&&_}
+use mathlib.Core.Bool.{Bool, true, false, cond, not, _&&_, _||_}
 use mathlib.Core.List.{List, [], _∷_, _++_}
 use native.Mathlib.Nat.{sub-zero, suc-sub-suc, zero-add}
 use native.Mathlib.Omega.{arith}
 use lib.Dec.{eqb}
-use lib.ListN.{length, getD, replicate, length-replicate, getD-replicate}
+use lib.ListN.{length, getD, set, replicate, length-replicate, getD-replicate}
 use Rattle.model.specs.declared.Outcome.{Outcome}
 use Rattle.model.specs.Run.{RegionState, untouched, hasBar, painted, afterwards, allAfterwards}
 use Rattle.model.specs.Columns.{column}
@@ -98,13 +98,21 @@ module _ (rule : ℕ) where
 
 -- ---- the stop flags
 
+cond-later : (t : Bool) (x : ℕ) (xs ys : List ℕ) → cond t (x ∷ xs) (x ∷ ys) ≡ x ∷ cond t xs ys
+cond-later true x xs ys = refl
+cond-later false x xs ys = refl
+
+cond-first : (t : Bool) (x y : ℕ) (xs : List ℕ) → cond t (x ∷ xs) (y ∷ xs) ≡ cond t x y ∷ xs
+cond-first true x y xs = refl
+cond-first false x y xs = refl
+
 module _ (stop : Bool) where
   stop-later : (i : ℕ) (o : Outcome) (x : ℕ) (flags : List ℕ) → stopAt stop (suc i) o (x ∷ flags) ≡ x ∷ stopAt stop i o flags
   unfolding stopAt
   stop-later i Outcome.Stopped x flags = refl
   stop-later i Outcome.Passed x flags = refl
   stop-later i Outcome.Unresolved x flags = refl
-  stop-later i (Outcome.Painted p) x flags = refl
+  stop-later i (Outcome.Painted p) x flags = cond-later stop x (set flags i 1) flags
 
   stops-later : (i : ℕ) (os : List Outcome) (x : ℕ) (flags : List ℕ) → stops stop (suc i) os (x ∷ flags) ≡ x ∷ stops stop i os flags
   unfolding stops
@@ -123,14 +131,22 @@ module _ (stop : Bool) where
   flagAfter Outcome.Stopped x = x
   flagAfter Outcome.Passed x = x
   flagAfter Outcome.Unresolved x = x
-  flagAfter (Outcome.Painted p) x = cond stop 1 0
+  flagAfter (Outcome.Painted p) x = cond stop 1 x
 
   stop-first : (o : Outcome) (x : ℕ) (flags : List ℕ) → stopAt stop 0 o (x ∷ flags) ≡ flagAfter o x ∷ flags
   unfolding stopAt flagAfter
   stop-first Outcome.Stopped x flags = refl
   stop-first Outcome.Passed x flags = refl
   stop-first Outcome.Unresolved x flags = refl
-  stop-first (Outcome.Painted p) x flags = refl
+  stop-first (Outcome.Painted p) x flags = cond-first stop 1 x flags
+
+or-true : (b : Bool) → b || true ≡ true
+or-true true = refl
+or-true false = refl
+
+or-false : (b : Bool) → b || false ≡ b
+or-false true = refl
+or-false false = refl
 
 flag-says : (rule : ℕ) (stop : Bool) (s : RegionState) (o : Outcome) (x : ℕ)
     → s .stopped ≡ not (eqb x 0) → afterwards rule stop s o .stopped ≡ not (eqb (flagAfter stop o x) 0)
@@ -138,8 +154,8 @@ unfolding afterwards painted flagAfter
 flag-says rule stop s Outcome.Stopped x e = e
 flag-says rule stop s Outcome.Passed x e = e
 flag-says rule stop s Outcome.Unresolved x e = e
-flag-says rule true s (Outcome.Painted p) x e = refl
-flag-says rule false s (Outcome.Painted p) x e = refl
+flag-says rule true s (Outcome.Painted p) x e = or-true (s .stopped)
+flag-says rule false s (Outcome.Painted p) x e = or-false (s .stopped) ∙ e
 
 module _ {x : ℕ} {flags : List ℕ} {n : ℕ} {s : RegionState} {states : List RegionState} where
   stopped-rest : StoppedBy (x ∷ flags) 0 (suc n) (s ∷ states) → StoppedBy flags 0 n states

@@ -71,12 +71,12 @@ drawBars rule region (o ∷ os) c = drawBars rule (suc region) os (drawBar rule 
 
 -- ---- the stop flags
 
--- a mark sets its region's flag, to 0 where the rule does not stop
+-- a mark of a rule that stops sets its region's flag
 unfoldable pub stopAt : Bool → ℕ → Outcome → List ℕ → List ℕ
 stopAt stop region Outcome.Stopped flags = flags
 stopAt stop region Outcome.Passed flags = flags
 stopAt stop region Outcome.Unresolved flags = flags
-stopAt stop region (Outcome.Painted p) flags = set flags region (cond stop 1 0)
+stopAt stop region (Outcome.Painted p) flags = cond stop (set flags region 1) flags
 
 -- the outcomes of the regions from `region` on
 unfoldable pub stops : Bool → ℕ → List Outcome → List ℕ → List ℕ

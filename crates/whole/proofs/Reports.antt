@@ -17,15 +17,16 @@ use Rattle.model.specs.Job.{Job, result}
 use Rattle.model.specs.Sheet.{CellColumns}
 use Rattle.jobtext.specs.Written.{CellLine, JobText}
 use Rattle.jobtext.specs.Read.{ReadResult, read}
-use Rattle.jobtext.specs.Laid.{columnsFrom, laid, space, decided}
+use Rattle.jobtext.specs.Laid.{columnsFrom, laid}
+use Rattle.jobtext.specs.Decided.{wholeSpace, decided}
 use Rattle.reporttext.specs.Report.{summaryText, reportOf}
-use Rattle.reporttext.proofs.Held.{report-refused}
+use Rattle.reporttext.proofs.Shown.{report-refused}
 use Rattle.checks.specs.Checked.{cellColumns, jobOf}
 use Rattle.celllines.specs.Columns.{pages}
 use Rattle.celllines.proofs.Sections.{columns-eq}
 use Rattle.reader.specs.declared.ReadJob.{ReadJob}
 use Rattle.reader.specs.Held.{takenAs, Held, laidIn, readJob, heldAfter}
-use Rattle.reader.proofs.Fits.{ats-length}
+use Rattle.jobtext.proofs.Lengths.{ats-length}
 use Rattle.whole.proofs.Fitting.{Fits, read-fits, wholeMemory, never-short}
 
 -- ---- a refused text
@@ -111,7 +112,7 @@ module _ (s : List ℕ) {job : ReadJob} {h : Held} (is : job ≡ readJob wholeMe
     pub cells : job .cells ≤ 1024
     pub regions : job .regions ≤ 1024
     pub used : job .used ≤ 32_768
-    pub decides : result (jobIn job h) (job .limit) space ≡ decided (read s)
+    pub decides : result (jobIn job h) (job .limit) wholeSpace ≡ decided (read s)
 
   read-as : (x : ReadResult) → read s ≡ x → job ≡ readJob wholeMemory x → h ≡ heldAfter x wholeMemory → Read
   unfolding readJob heldAfter decided
@@ -127,8 +128,8 @@ module _ (s : List ℕ) {job : ReadJob} {h : Held} (is : job ≡ readJob wholeMe
         regions = subst (λ (k : ReadJob). k .regions ≤ 1024) (sym i) (laid-regions j f);
         used = subst (λ (k : ReadJob). k .used ≤ 32_768) (sym i) (f .pool);
         decides =
-            ap (λ (k : Job). result k (job .limit) space) job-laid
-            ∙ ap (λ (k : ReadJob). result (laid j) (k .limit) space) i
+            ap (λ (k : Job). result k (job .limit) wholeSpace) job-laid
+            ∙ ap (λ (k : ReadJob). result (laid j) (k .limit) wholeSpace) i
             ∙ ap decided (sym e);
       }
   read-as ReadResult.tooLong e i l = absurd (no-job 9 (sym (ap (λ (k : ReadJob). k .number) i)))

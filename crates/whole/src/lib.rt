@@ -4,7 +4,7 @@ ghost use lib.ListN.{length};
 ghost use Rattle.memory.specs.Memory.{page, pageLength};
 ghost use Rattle.reporttext.specs.Report.{reportOf};
 ghost use Rattle.jobtext.specs.Read.{read};
-ghost use Rattle.jobtext.specs.Laid.{decided};
+ghost use Rattle.jobtext.specs.Decided.{decided};
 
 // The report on a job text: its length, 0 where it is longer than the lent bytes.
 pub fn whole_job(text: &[u8], report: &mut [u8]) -> usize

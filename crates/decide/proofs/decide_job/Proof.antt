@@ -3,7 +3,7 @@ use mathlib.Core.Path.{refl}
 use denote.Ref.{now}
 use borrow.Author.Needs.{needs}
 use Rattle.checks.specs.Checked.{cellColumns, jobOf}
-use Rattle.jobtext.specs.Laid.{space}
+use Rattle.jobtext.specs.Decided.{wholeSpace}
 use Rattle.report.proofs.Printing.{printed-all}
 use Rattle.decide.proofs.Reports.{report-printed, answer-held}
 use Rattle.decide.proofs.decide_job.Statement.{statement}
@@ -13,7 +13,7 @@ same-length : tie.Need-same-length
 same-length c = search needs
 
 returns : tie.Need-returns
-unfolding space
+unfolding wholeSpace
 returns c =
     let wrote = c .before .before in
     let called = wrote .before .before .before .before .before .before .before .before .before .before .before .before .before .before

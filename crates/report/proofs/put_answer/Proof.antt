@@ -5,7 +5,7 @@ use mathlib.Core.List.{append-assoc}
 use lib.ListN.{length}
 use borrow.Author.Needs.{needs}
 use Rattle.grammar.specs.Parts.{bytes}
-use Rattle.put.specs.Laid.{last}
+use Rattle.put.specs.Put.{last}
 use Rattle.put.proofs.Laws.{laid-then, laid-as, laid-length, laid-ready}
 use Rattle.reporttext.specs.Report.{markNames, barNames, marksText, barsText}
 use Rattle.report.proofs.put_answer.Statement.{statement}

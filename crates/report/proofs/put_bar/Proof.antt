@@ -5,7 +5,7 @@ use mathlib.Core.Path.{_∙_}
 use mathlib.Core.List.{append-assoc}
 use lib.ListN.{length}
 use borrow.Author.Needs.{needs}
-use Rattle.put.specs.Laid.{last}
+use Rattle.put.specs.Put.{last}
 use Rattle.put.proofs.Laws.{laid-then, laid-as}
 use Rattle.report.proofs.Lines.{bar-none, bar-some}
 use Rattle.report.proofs.put_bar.Statement.{statement}

@@ -4,7 +4,7 @@ use native.Mathlib.Omega.{arith}
 use mathlib.Core.List.{append-assoc}
 use lib.ListN.{length}
 use borrow.Author.Needs.{needs}
-use Rattle.put.specs.Laid.{last}
+use Rattle.put.specs.Put.{last}
 use Rattle.put.proofs.Laws.{laid-then, laid-as, laid-length}
 use Rattle.reporttext.specs.Report.{markLine}
 use Rattle.report.proofs.put_mark.Statement.{statement}

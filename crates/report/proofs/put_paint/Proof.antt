@@ -5,7 +5,7 @@ use mathlib.Core.List.{append-assoc}
 use lib.ListN.{length}
 use borrow.Author.Needs.{needs}
 use Rattle.model.specs.Run.{hasBar}
-use Rattle.put.specs.Laid.{last}
+use Rattle.put.specs.Put.{last}
 use Rattle.put.proofs.Laws.{laid-then, laid-as, laid-length}
 use Rattle.reporttext.specs.Report.{hasColour, paintText}
 use Rattle.report.proofs.put_paint.Statement.{statement}

@@ -6,12 +6,12 @@ use mathlib.Core.Path.{sym, ap, _∙_}
 use lib.ListN.{length}
 use borrow.Author.Needs.{needs}
 use Rattle.model.specs.Answer.{Summary}
-use Rattle.put.specs.Laid.{last}
+use Rattle.put.specs.Put.{last}
 use Rattle.put.proofs.Laws.{laid-then, laid-as}
 use Rattle.put.proofs.Keeping.{kept-page}
 use Rattle.reporttext.specs.Report.{reportOf}
-use Rattle.reporttext.specs.Held.{printed, resultIn}
-use Rattle.reporttext.proofs.Held.{report-refused, report-answered}
+use Rattle.reporttext.specs.Shown.{printed, resultIn}
+use Rattle.reporttext.proofs.Shown.{report-refused, report-answered}
 use Rattle.report.specs.Figures.{summaryOf}
 use Rattle.report.proofs.Printing.{printed-page, printed-none, all-held, not-held}
 use Rattle.report.proofs.write_report.Statement.{statement}

@@ -15,7 +15,7 @@ use Rattle.model.specs.Job.{Job, Lengths, result}
 use Rattle.model.specs.Columns.{column, written, columnsOf}
 use Rattle.laws.proofs.Results.{WholeJob, Refused, result-is}
 use Rattle.reporttext.specs.Report.{barLine, barLines, summaryText, marksText, barsText, reportOf}
-use Rattle.reporttext.specs.Held.{markIn, marksIn, barIn, barsIn, resultIn}
+use Rattle.reporttext.specs.Shown.{markIn, marksIn, barIn, barsIn, resultIn}
 
 -- ---- the two forms of a report
 

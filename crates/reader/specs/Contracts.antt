@@ -1,5 +1,6 @@
--- What the readers inside a job text answer for each result of the grammar: its two first lines with the tests on length and counts, and
--- the sections behind them. Assumes nothing.
+-- The contracts of the reader's inner functions, in the shape of the program: its two first lines with the tests on length and counts,
+-- the sections behind them, and the end. What reading a job text comes to is defined in jobtext (`read`) and Held.antt; nothing here adds
+-- to it. Assumes nothing.
 use Prim.Native.Nat.{ℕ, _+_, _≤_}
 use mathlib.Core.Bool.{Bool, true, false, cond, _&&_}
 use mathlib.Core.List.{List}
@@ -7,14 +8,10 @@ use mathlib.Core.Path.{_≡_}
 use lib.Dec.{eqb, leb}
 use lib.ListN.{length}
 use Rattle.memory.specs.Memory.{allOrZeros, pageOf}
-use Rattle.model.specs.declared.CellCoordinate.{CellCoordinate}
 use Rattle.model.specs.Sheet.{CellColumns}
-use Rattle.grammar.specs.Gram.{Got, Gram, lineOf}
+use Rattle.grammar.specs.Gram.{Got, lineOf}
 use Rattle.grammar.specs.Gram.Got.{got, bad}
-use Rattle.grammar.specs.Parts.{bytes, behind, both, times}
-use Rattle.jobtext.specs.Written.{RuleLine}
-use Rattle.jobtext.specs.Rules.{ruleLine}
-use Rattle.jobtext.specs.Text.{Head, bodyT, cellLine, regionLine, head}
+use Rattle.jobtext.specs.Text.{Head, tailT, bodyT, head}
 use Rattle.jobtext.specs.Read.{ReadResult, over}
 use Rattle.jobtext.specs.Laid.{cellBytes, columnsFrom, ruleBytes, laid}
 use Rattle.celllines.specs.Columns.{pages}
@@ -27,16 +24,6 @@ use Rattle.reader.specs.Held.{Held, held, refusedAs, fitsIn, laidIn}
 
 -- ---- behind the cells
 
-abbrev pub tailT : Type 0
-tailT = List CellCoordinate × List RuleLine
-
--- the sections of regions and rules
-unfoldable pub tail : ℕ → ℕ → Gram tailT
-tail regions rules =
-    behind (bytes "row col\n")
-    (both (times regions regionLine)
-    (behind (bytes "top left bottom right priority stop imported rule p1 p2 p3 p4\n") (times rules ruleLine)))
-
 -- the regions are alone in columns that are long enough; the rules' names go to a pool from `used` on
 abbrev pub IsTail : Got tailT → ℕ → List ℕ → List ℕ → List ℕ → RuleSection → List ℕ → List ℕ → List ℕ → Type 0
 IsTail (got x q) used rows cols pool r rows′ cols′ pool′ =
@@ -47,10 +34,6 @@ IsTail (got x q) used rows cols pool r rows′ cols′ pool′ =
 IsTail (bad p) used rows cols pool r rows′ cols′ pool′ = (r .ok ≡ false) × (r .next ≡ p)
 
 -- ---- all sections
-
--- `body` (jobtext) by its three numbers
-unfoldable pub bodyOf : ℕ → ℕ → ℕ → Gram bodyT
-bodyOf cells regions rules = behind (bytes "row col wraps value\n") (both (times cells cellLine) (tail regions rules))
 
 -- numbers of cells and regions, against the lengths of seven columns and of two
 abbrev pub columnsFit : ℕ → ℕ → ℕ → ℕ → ℕ → ℕ → ℕ → ℕ → ℕ → ℕ → ℕ → Bool

@@ -1,0 +1,12 @@
+pub mod LineFeeds
+pub mod BadLines
+pub mod SeenSaid
+pub mod SheetLaid
+pub mod LimitRaised
+pub mod ReportLines
+pub mod Rounding
+pub mod PoolHalf
+pub mod TextNumbers
+pub mod LongestJob
+pub mod LongestRun
+pub mod LongestText
