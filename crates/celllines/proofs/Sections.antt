@@ -24,7 +24,7 @@ use Rattle.jobtext.proofs.Lengths.{cell-length}
 use Rattle.celllines.specs.declared.ReadCell.{ReadCell}
 use Rattle.celllines.specs.declared.LinesRead.{LinesRead}
 use Rattle.celllines.specs.Lines.{IsCell, CellStored}
-use Rattle.celllines.specs.Columns.{columns, storedCell, Left, leftOf, IsLeft}
+use Rattle.celllines.specs.Columns.{columns, storedCell, CellsLeft, leftOf, IsLeft}
 
 pub columns-eq : {a b c d e f g a′ b′ c′ d′ e′ f′ g′ : List ℕ} → a ≡ a′ → b ≡ b′ → c ≡ c′ → d ≡ d′ → e ≡ e′ → f ≡ f′ → g ≡ g′
     → columns a b c d e f g ≡ columns a′ b′ c′ d′ e′ f′ g′
@@ -91,14 +91,14 @@ module _ {s : List ℕ} {at n used : ℕ} {d₀ : CellColumns} {pool₀ : List �
       let z : n - i ≡ 0 = omega arith in
       let y : u + 0 ≡ u = omega arith in
       let l = w .wide in
-      subst (λ (l : Left). IsLeft l (record { ok = true; next = q; used = u }) d pool) (w .same)
+      subst (λ (l : CellsLeft). IsLeft l (record { ok = true; next = q; used = u }) d pool) (w .same)
       (rw (z, y) (refl, refl, λ k. w .stored (omega arith)))
 
   pub rest-stopped : (c : ReadCell) (r : LinesRead) (e : CellColumns) (after : List ℕ) → i < n → not (c .ok) ≡ true
       → IsCell (cellLine .parse s q) u c → r ≡ record { ok = false; next = c .next; used = 0 }
       → IsLeft (leftOf 0 used (timesP n (cellLine .parse) s at) d₀ pool₀) r e after
   rest-stopped c r e after h x k y =
-      subst (λ (l : Left). IsLeft l r e after) (w .same)
+      subst (λ (l : CellsLeft). IsLeft l r e after) (w .same)
       (rw (times-next n i (cellLine .parse) s q h) (go (cellLine .parse s q) k))
     where
       go : (g : Got CellLine) → IsCell g u c

@@ -28,8 +28,8 @@ use Rattle.celllines.specs.Columns.{
   overlaid,
   leftOf,
   IsLeft,
-  zeros,
-  blank,
+  zeroed,
+  zeroColumns,
   cellsAt,
   held,
   sectionOf,
@@ -51,7 +51,7 @@ pub lines-room : (s : List ℕ) (at used : ℕ) {b : Bool} → b ≡ roomy s at 
 lines-room s at used {b} x y = roomy-room s at used (sym x ∙ so b y)
 
 -- zeros of columns that kept their lengths
-pub blank-long : (d e : CellColumns) → Long d e → blank d ≡ blank e
+pub blank-long : (d e : CellColumns) → Long d e → zeroColumns d ≡ zeroColumns e
 blank-long d e l = rw (l .rows, l .cols, l .kinds, l .wraps, l .nums, l .ats, l .lens)
 
 -- ---- what fits
@@ -95,8 +95,8 @@ inside n d e =
     }
 
 -- stored over zeros, where it fits, it is alone in its memory
-alone : (l xs : List ℕ) → length xs ≤ length l → sets (zeros l) 0 xs ≡ pageOf true (length l) xs
-alone l xs h = sym (all-fits 0 (zeros l) 0 xs (omega (arith, length-replicate {A = ℕ} (length l) 0)))
+alone : (l xs : List ℕ) → length xs ≤ length l → sets (zeroed l) 0 xs ≡ pageOf true (length l) xs
+alone l xs h = sym (all-fits 0 (zeroed l) 0 xs (omega (arith, length-replicate {A = ℕ} (length l) 0)))
 
 length-ats : (u : ℕ) (cs : List CellLine) → length (atsFrom u cs) ≡ length cs
 unfolding atsFrom
@@ -104,7 +104,7 @@ length-ats u [] = refl
 length-ats u (c ∷ cs) = ap suc (length-ats (u + length (valueBytes (c .value))) cs)
 
 pages-alone : (used : ℕ) (cs : List CellLine) (d : CellColumns) → Inside (length cs) d
-    → overlaid 0 (columnsFrom used cs) (blank d) ≡ pages true (columnsFrom used cs) d
+    → overlaid 0 (columnsFrom used cs) (zeroColumns d) ≡ pages true (columnsFrom used cs) d
 unfolding columnsFrom
 pages-alone used cs d i =
     columns-eq (alone (d .rows) (map (λ (c : CellLine). c .row) cs) (omega (arith, length-map cs (λ (c : CellLine). c .row), i .rows)))
@@ -129,7 +129,7 @@ pages-alone used cs d i =
           .lens,
     )))
 
-pages-refused : (c d : CellColumns) → blank d ≡ pages false c d
+pages-refused : (c d : CellColumns) → zeroColumns d ≡ pages false c d
 pages-refused c d =
     columns-eq (sym (page-refused 0 (length (d .rows)) (c .rows))) (sym (page-refused 0 (length (d .cols)) (c .cols)))
     (sym (page-refused 0 (length (d .kinds)) (c .kinds))) (sym (page-refused 0 (length (d .wraps)) (c .wraps)))
@@ -148,7 +148,7 @@ module _ (s : List ℕ) (at n used : ℕ) (d : CellColumns) (pool : List ℕ) wh
   abbrev Says : Got (List CellLine) → Section → CellColumns → List ℕ → Type 0
   Says g r e after = (r ≡ sectionOf used g d pool) × ((e ≡ columnsAfter used g d pool) × (after ≡ poolAfter used g d pool))
 
-  pub no-room : {b : Bool} (e : CellColumns) (after : List ℕ) → b ≡ roomy s at used → not b ≡ true → e ≡ blank d → after ≡ zeros pool
+  pub no-room : {b : Bool} (e : CellColumns) (after : List ℕ) → b ≡ roomy s at used → not b ≡ true → e ≡ zeroColumns d → after ≡ zeroed pool
       → Says (cellsAt s at n used) (record { ok = false; fits = false; next = at; used = 0 }) e after
   unfolding cellsAt
   no-room {b} e after x y i j = rw (sym x ∙ not-so b y) (refl, (i, j))
@@ -161,7 +161,7 @@ module _ (s : List ℕ) (at n used : ℕ) (d : CellColumns) (pool : List ℕ) wh
 
   -- d₁: the columns cleared; d₂ and pool₂: what the lines left; m: all cells are within the columns; f: and the texts within the pool
   module _ {b : Bool} (x : b ≡ roomy s at used) (y : not b ≡ false) (r : LinesRead) (d₁ d₂ : CellColumns) (pool₂ : List ℕ)
-      (m : Bool) {f : Bool} (clean : d₁ ≡ blank d) (i : IsLeft (leftOf 0 used lines d₁ pool) r d₂ pool₂)
+      (m : Bool) {f : Bool} (clean : d₁ ≡ zeroColumns d) (i : IsLeft (leftOf 0 used lines d₁ pool) r d₂ pool₂)
       (kept₁ : Long d₁ d) (kept₂ : Long d₂ d₁) (deep : length pool₂ ≡ length pool) (em : m ≡ heldIf (r .ok) n d₂)
       (ef : f ≡ (m && leb (r .used) (length pool₂))) where
     long : Long d₂ d
@@ -208,14 +208,14 @@ module _ (s : List ℕ) (at n used : ℕ) (d : CellColumns) (pool : List ℕ) wh
         go (bad p) e i = clash f false yes refl (fit ∙ rw i)
 
     -- what was cleared after it had been read into
-    pub lines-refused : (e : CellColumns) (after : List ℕ) → not f ≡ true → e ≡ blank d₂ → after ≡ zeros pool₂
+    pub lines-refused : (e : CellColumns) (after : List ℕ) → not f ≡ true → e ≡ zeroColumns d₂ → after ≡ zeroed pool₂
         → Says (cellsAt s at n used) answer e after
     lines-refused e after z j o = rw in-room (go lines refl i)
       where
         no : f ≡ false
         no = not-so f z
 
-        cleared : after ≡ zeros pool
+        cleared : after ≡ zeroed pool
         cleared = o ∙ ap (λ (l : ℕ). replicate l 0) deep
 
         go : (g : Got (List CellLine)) → lines ≡ g → IsLeft (leftOf 0 used g d₁ pool) r d₂ pool₂ → Says g answer e after

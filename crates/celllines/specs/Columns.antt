@@ -37,29 +37,29 @@ overlaid i c d =
     (sets (d .nums) i (c .nums)) (sets (d .ats) i (c .ats)) (sets (d .lens) i (c .lens))
 
 -- all lines, with the place after them and up to where the pool is used, or the place at which they cannot be read on
-pub data Left : Type 0 where
-  done : ℕ → ℕ → CellColumns → List ℕ → Left
-  stopped : ℕ → Left
+pub data CellsLeft : Type 0 where
+  done : ℕ → ℕ → CellColumns → List ℕ → CellsLeft
+  stopped : ℕ → CellsLeft
 
 -- what lines leave that are stored from index i and from u in the pool on
-abbrev pub leftOf : ℕ → ℕ → Got (List CellLine) → CellColumns → List ℕ → Left
-leftOf i u (got cs q) d pool = Left.done q (u + length (cellBytes cs)) (overlaid i (columnsFrom u cs) d) (sets pool u (cellBytes cs))
-leftOf i u (bad p) d pool = Left.stopped p
+abbrev pub leftOf : ℕ → ℕ → Got (List CellLine) → CellColumns → List ℕ → CellsLeft
+leftOf i u (got cs q) d pool = CellsLeft.done q (u + length (cellBytes cs)) (overlaid i (columnsFrom u cs) d) (sets pool u (cellBytes cs))
+leftOf i u (bad p) d pool = CellsLeft.stopped p
 
 -- nothing is said of the pool where its texts do not fit
-abbrev pub IsLeft : Left → LinesRead → CellColumns → List ℕ → Type 0
-IsLeft (Left.done q u d pool) r e after =
+abbrev pub IsLeft : CellsLeft → LinesRead → CellColumns → List ℕ → Type 0
+IsLeft (CellsLeft.done q u d pool) r e after =
     (r ≡ record { ok = true; next = q; used = u }) × (e ≡ d) × (u ≤ length pool → after ≡ pool)
-IsLeft (Left.stopped p) r e after = r ≡ record { ok = false; next = p; used = 0 }
+IsLeft (CellsLeft.stopped p) r e after = r ≡ record { ok = false; next = p; used = 0 }
 
 -- ---- the whole section
 
-abbrev pub zeros : List ℕ → List ℕ
-zeros l = replicate (length l) 0
+abbrev pub zeroed : List ℕ → List ℕ
+zeroed l = replicate (length l) 0
 
-abbrev pub blank : CellColumns → CellColumns
-blank d =
-    columns (zeros (d .rows)) (zeros (d .cols)) (zeros (d .kinds)) (zeros (d .wraps)) (zeros (d .nums)) (zeros (d .ats)) (zeros (d .lens))
+abbrev pub zeroColumns : CellColumns → CellColumns
+zeroColumns d =
+    columns (zeroed (d .rows)) (zeroed (d .cols)) (zeroed (d .kinds)) (zeroed (d .wraps)) (zeroed (d .nums)) (zeroed (d .ats)) (zeroed (d .lens))
 
 abbrev pub cellsIf : Bool → List ℕ → ℕ → ℕ → Got (List CellLine)
 cellsIf true s at n = timesP n (cellLine .parse) s at
@@ -93,8 +93,8 @@ pages ok c d =
 
 abbrev pub columnsAfter : ℕ → Got (List CellLine) → CellColumns → List ℕ → CellColumns
 columnsAfter used (got cs q) d pool = pages (allFit used cs d pool) (columnsFrom used cs) d
-columnsAfter used (bad p) d pool = blank d
+columnsAfter used (bad p) d pool = zeroColumns d
 
 abbrev pub poolAfter : ℕ → Got (List CellLine) → CellColumns → List ℕ → List ℕ
 poolAfter used (got cs q) d pool = allOrZeros (allFit used cs d pool) pool used (cellBytes cs)
-poolAfter used (bad p) d pool = zeros pool
+poolAfter used (bad p) d pool = zeroed pool

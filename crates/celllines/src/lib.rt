@@ -11,7 +11,7 @@ ghost use Rattle.grammar.specs.Parts.{timesP};
 ghost use Rattle.fields.specs.Room.{Room};
 ghost use Rattle.jobtext.specs.Fields.{value};
 ghost use Rattle.jobtext.specs.Text.{cellLine};
-ghost use Rattle.celllines.specs.Columns.{columns, storedCell, leftOf, IsLeft, blank, cellsAt, sectionOf, columnsAfter, poolAfter};
+ghost use Rattle.celllines.specs.Columns.{columns, storedCell, leftOf, IsLeft, zeroColumns, cellsAt, sectionOf, columnsAfter, poolAfter};
 ghost use Rattle.celllines.specs.Lines.{IsValue, ValueStored, IsCell, CellStored};
 
 // A value as the columns hold it, the place after it, and up to where the pool is then used.
@@ -235,7 +235,7 @@ fn clear_columns(
     lens: &mut [u32],
 )
     ensures { λ _. ⌜ columns (now (rows .exit)) (now (cols .exit)) (now (kinds .exit)) (now (wraps .exit)) (now (nums .exit)) (now
-        (ats .exit)) (now (lens .exit)) ≡ blank (columns (now (rows .entry)) (now (cols .entry)) (now (kinds .entry)) (now
+        (ats .exit)) (now (lens .exit)) ≡ zeroColumns (columns (now (rows .entry)) (now (cols .entry)) (now (kinds .entry)) (now
         (wraps .entry)) (now (nums .entry)) (now (ats .entry)) (now (lens .entry))) ⌝ }
 {
     lent::clear_u32(rows);
@@ -259,7 +259,7 @@ pub fn clear_cells(
     pool: &mut [u8],
 )
     ensures { λ _. ⌜ columns (now (rows .exit)) (now (cols .exit)) (now (kinds .exit)) (now (wraps .exit)) (now (nums .exit)) (now
-        (ats .exit)) (now (lens .exit)) ≡ blank (columns (now (rows .entry)) (now (cols .entry)) (now (kinds .entry)) (now
+        (ats .exit)) (now (lens .exit)) ≡ zeroColumns (columns (now (rows .entry)) (now (cols .entry)) (now (kinds .entry)) (now
         (wraps .entry)) (now (nums .entry)) (now (ats .entry)) (now (lens .entry))) ⌝ }
     ensures { λ _. ⌜ now (pool .exit) ≡ replicate (length (now (pool .entry))) 0 ⌝ }
 {

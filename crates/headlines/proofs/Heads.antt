@@ -14,7 +14,7 @@ use Rattle.fields.specs.declared.ReadText.{ReadText}
 use Rattle.fields.specs.Field.{fieldOf, wordOf, textOf, pooled}
 use Rattle.fields.proofs.Laws.{clash, field-read, field-none, word-read, word-none, word-byte}
 use Rattle.jobtext.specs.Fields.{count, textField}
-use Rattle.jobtext.specs.Text.{Head, head, headT, toHead}
+use Rattle.jobtext.specs.Text.{Head, headNames, head, headT, toHead}
 use Rattle.headlines.specs.declared.Counts.{Counts}
 use Rattle.headlines.specs.declared.ReadHead.{ReadHead}
 use Rattle.headlines.specs.Heads.{countsT, counts, countsOf, headOf, headPooled}
@@ -147,10 +147,6 @@ counts-none (bad p) e h = rw e
 
 -- ---- both lines
 
--- the names of the first line
-abbrev names : List ℕ
-names = bytes "limit start cells regions rules name\n"
-
 abbrev noHead : ℕ → ReadHead
 noHead p = record { ok = false; fits = false; limit = 0; start = 0; cells = 0; regions = 0; rules = 0; name = 0; next = p }
 
@@ -163,10 +159,10 @@ module _ (s : List ℕ) (at : ℕ) (pool : List ℕ) {clean : List ℕ} (cleared
   refused : (p : ℕ) {r : ReadHead} → head .parse s at ≡ bad p → r ≡ noHead p → Says (head .parse s at) r clean
   refused p e y = rw e (y, cleared)
 
-  module _ {w : Field} (ew : w ≡ wordOf (wordP names s at)) where
+  module _ {w : Field} (ew : w ≡ wordOf (wordP headNames s at)) where
     pub no-names : {r : ReadHead} → not (w .ok) ≡ true → r ≡ noHead (w .next) → Says (head .parse s at) r clean
     unfolding head
-    no-names x y = refused (w .next) (rw (word-none (wordP names s at) ew x)) y
+    no-names x y = refused (w .next) (rw (word-none (wordP headNames s at) ew x)) y
 
     module _ (xw : not (w .ok) ≡ false) {k : Counts} (ek : k ≡ countsOf (counts .parse s (w .next))) where
       pub no-numbers : {r : ReadHead} → not (k .ok) ≡ true → r ≡ noHead (k .next) → Says (head .parse s at) r clean
@@ -174,7 +170,7 @@ module _ (s : List ℕ) (at : ℕ) (pool : List ℕ) {clean : List ℕ} (cleared
       no-numbers x y =
           refused (k .next)
           (rw (
-            word-read (wordP names s at) ew xw,
+            word-read (wordP headNames s at) ew xw,
             numbers-name s .reads (w .next),
             counts-none (counts .parse s (w .next)) ek x,
           )) y
@@ -185,7 +181,7 @@ module _ (s : List ℕ) (at : ℕ) (pool : List ℕ) {clean : List ℕ} (cleared
         no-mark x y =
             refused (m .next)
             (rw (
-              word-read (wordP names s at) ew xw,
+              word-read (wordP headNames s at) ew xw,
               numbers-name s .reads (w .next),
               counts-read (counts .parse s (w .next)) ek xk,
               word-byte 116 s (k .next) ∙ word-none (byteP 116 s (k .next)) em x,
@@ -199,7 +195,7 @@ module _ (s : List ℕ) (at : ℕ) (pool : List ℕ) {clean : List ℕ} (cleared
           unfolding head textField bytes
           last g e =
               rw (
-                word-read (wordP names s at) ew xw,
+                word-read (wordP headNames s at) ew xw,
                 numbers-name s .reads (w .next),
                 counts-read (counts .parse s (w .next)) ek xk,
                 word-byte 116 s (k .next) ∙ word-read (byteP 116 s (k .next)) em xm,

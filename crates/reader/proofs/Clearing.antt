@@ -10,12 +10,12 @@ use Rattle.model.specs.Sheet.{CellColumns}
 use Rattle.model.specs.Job.{Job}
 use Rattle.jobtext.specs.Read.{ReadResult}
 use Rattle.jobtext.specs.Laid.{laid}
-use Rattle.celllines.specs.Columns.{blank, zeros}
+use Rattle.celllines.specs.Columns.{zeroColumns, zeroed}
 use Rattle.celllines.proofs.Sections.{Long}
 use Rattle.celllines.proofs.Whole.{blank-long}
 use Rattle.reader.specs.declared.ReadJob.{ReadJob}
 use Rattle.reader.specs.Held.{refusedAs, takenAs, Held, held, fitsIn, laidIn, cleared, readJob, heldAfter}
-use Rattle.reader.specs.Contracts.{Left}
+use Rattle.reader.specs.Contracts.{JobLeft}
 
 -- a memory that is refused
 none-held : (j : Job) (h : Held) → laidIn false j h ≡ cleared h
@@ -23,7 +23,7 @@ none-held j h = simp (page-refused {A = ℕ} 0)
 
 module _ (h e : Held) where
   -- where a job was read that fits, and where none was
-  job-held : {j : ReadJob} (z : ReadResult) → j ≡ readJob h z → j .number ≡ 0 → Left z h e → e ≡ heldAfter z h
+  job-held : {j : ReadJob} (z : ReadResult) → j ≡ readJob h z → j .number ≡ 0 → JobLeft z h e → e ≡ heldAfter z h
   unfolding readJob heldAfter
   job-held {j} (ReadResult.is k) x n l = go (fitsIn (laid k) h) x l
     where
@@ -66,13 +66,13 @@ Kept m rows₁ cols₁ pool₁ d rows cols pool =
     × (Same (m .lens) (d .lens) × (Same rows₁ rows × (Same cols₁ cols × (Same pool₁ pool × Unit {0})))))))))
 
 module _ (z : ReadResult) (d : CellColumns) (rows cols pool : List ℕ) where
-  pub job-taken : {j : ReadJob} (e : Held) → j .number ≡ 0 → (j ≡ readJob (held d rows cols pool) z) × Left z (held d rows cols pool) e
+  pub job-taken : {j : ReadJob} (e : Held) → j .number ≡ 0 → (j ≡ readJob (held d rows cols pool) z) × JobLeft z (held d rows cols pool) e
       → (j ≡ readJob (held d rows cols pool) z) × (e ≡ heldAfter z (held d rows cols pool))
   job-taken e n x = (x .0, job-held (held d rows cols pool) e z (x .0) n (x .1))
 
   pub job-refused : {j : ReadJob} {e : CellColumns} {rows₂ cols₂ pool₂ : List ℕ} (m : CellColumns) (rows₁ cols₁ pool₁ : List ℕ)
       → j ≡ readJob (held d rows cols pool) z → (j .number ≡ 0 → ⊥) → Kept m rows₁ cols₁ pool₁ d rows cols pool
-      → e ≡ blank m → rows₂ ≡ zeros rows₁ → cols₂ ≡ zeros cols₁ → pool₂ ≡ zeros pool₁
+      → e ≡ zeroColumns m → rows₂ ≡ zeroed rows₁ → cols₂ ≡ zeroed cols₁ → pool₂ ≡ zeroed pool₁
       → (j ≡ readJob (held d rows cols pool) z) × (held e rows₂ cols₂ pool₂ ≡ heldAfter z (held d rows cols pool))
   job-refused {e = e} {rows₂ = rows₂} {cols₂ = cols₂} {pool₂ = pool₂} m rows₁ cols₁ pool₁ y n k x r c p =
       let t = k .1 .1 .1 .1 .1 .1 .1 in

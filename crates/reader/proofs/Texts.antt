@@ -24,14 +24,14 @@ use Rattle.rulelines.specs.RuleSections.{sectionOf as rulesOf}
 use Rattle.reader.specs.declared.Start.{Start}
 use Rattle.reader.specs.declared.ReadJob.{ReadJob}
 use Rattle.reader.specs.Held.{Held, held, refusedAs, takenAs, fitsIn, readJob}
-use Rattle.reader.specs.Contracts.{columnsIn, IsBody, noStart, started, startOf, startIf, finishedIf, finished, Left}
+use Rattle.reader.specs.Contracts.{columnsIn, IsBody, noStart, started, startOf, startIf, finishedIf, finished, JobLeft}
 use Rattle.reader.proofs.Starts.{Begun}
 use Rattle.reader.proofs.Fits.{cells-number, regions-number, pool-number, fits-laid, pool-laid}
 
 -- ---- refused in the first two lines
 
 abbrev Says : List ℕ → Held → ReadJob → Held → Type 0
-Says s h r e = (r ≡ readJob h (read s)) × Left (read s) h e
+Says s h r e = (r ≡ readJob h (read s)) × JobLeft (read s) h e
 
 pub start-refused : (s : List ℕ) (h : Held) {t : Start} {r : ReadJob} (e : Held) → t ≡ startIf (ltb maxText (length s)) s
     → (t .number ≡ 0 → ⊥) → r ≡ refusedAs (t .number) (t .line) (t .start) → Says s h r e
@@ -109,7 +109,7 @@ module _ (s : List ℕ) (k : Head) (q : ℕ) (d : CellColumns) (rows cols pool :
   named = held d rows cols (pageOf true (length pool) (k .name))
 
   abbrev Closed : ReadResult → ReadJob → Held → Type 0
-  Closed z x e = (x ≡ readJob lent z) × Left z lent e
+  Closed z x e = (x ≡ readJob lent z) × JobLeft z lent e
 
   long : length (pageOf true (length pool) (k .name)) ≡ length pool
   long = length-page 0 (length pool) (k .name) true

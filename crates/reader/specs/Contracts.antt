@@ -124,8 +124,8 @@ abbrev pub finished : List ℕ → Start → RuleSection → Bool → ReadJob
 finished s t b fits = finishedIf (b .ok && eqb (b .next) (length s)) (fits && b .fits) s t b
 
 -- what was left where a job was read that fits
-abbrev pub Left : ReadResult → Held → Held → Type 0
-Left (ReadResult.is j) h e = fitsIn (laid j) h ≡ true → e ≡ laidIn true (laid j) h
-Left ReadResult.tooLong h e = Unit {0}
-Left (ReadResult.badLine line) h e = Unit {0}
-Left (ReadResult.tooMany start) h e = Unit {0}
+abbrev pub JobLeft : ReadResult → Held → Held → Type 0
+JobLeft (ReadResult.is j) h e = fitsIn (laid j) h ≡ true → e ≡ laidIn true (laid j) h
+JobLeft ReadResult.tooLong h e = Unit {0}
+JobLeft (ReadResult.badLine line) h e = Unit {0}
+JobLeft (ReadResult.tooMany start) h e = Unit {0}

@@ -10,7 +10,7 @@ use Rattle.model.specs.Sheet.{CellColumns}
 use Rattle.model.specs.Job.{Job}
 use Rattle.jobtext.specs.Read.{ReadResult}
 use Rattle.jobtext.specs.Laid.{blankRule, laid}
-use Rattle.celllines.specs.Columns.{blank, zeros, pages}
+use Rattle.celllines.specs.Columns.{zeroColumns, zeroed, pages}
 use Rattle.reader.specs.declared.ReadJob.{ReadJob}
 
 -- ---- the answer
@@ -78,7 +78,7 @@ laidIn ok j h =
     (pageOf ok (length (h .regionCols)) (j .regionCols)) (pageOf ok (length (h .pool)) (j .pool))
 
 abbrev pub cleared : Held → Held
-cleared h = held (blank (h .cells)) (zeros (h .regionRows)) (zeros (h .regionCols)) (zeros (h .pool))
+cleared h = held (zeroColumns (h .cells)) (zeroed (h .regionRows)) (zeroed (h .regionCols)) (zeroed (h .pool))
 
 -- ---- the reader
 

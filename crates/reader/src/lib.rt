@@ -16,7 +16,7 @@ ghost use Rattle.celllines.specs.Columns.{columns};
 ghost use Rattle.jobtext.specs.Text.{head, tail, bodyOf};
 ghost use Rattle.jobtext.specs.Read.{maxText, read};
 ghost use Rattle.reader.specs.Held.{refusedAs, readJob, held, heldAfter};
-ghost use Rattle.reader.specs.Contracts.{IsTail, IsBody, columnsFit, noStart, startIf, Named, finished, Left};
+ghost use Rattle.reader.specs.Contracts.{IsTail, IsBody, columnsFit, noStart, startIf, Named, finished, JobLeft};
 
 // A job as it was read, with its numbers of cells and regions and up to where the pool is used; or the number of the refusal, with the
 // line that is malformed or the starting count.
@@ -315,7 +315,7 @@ fn read_text(
     ensures { λ r. ⌜ r ≡ readJob (held (columns (now (rows .entry)) (now (cols .entry)) (now (kinds .entry)) (now
         (wraps .entry)) (now (nums .entry)) (now (ats .entry)) (now (lens .entry))) (now (regionrows .entry)) (now
         (regioncols .entry)) (now (pool .entry))) (read (now (s .entry))) ⌝ }
-    ensures { λ _. ⌜ Left (read (now (s .entry))) (held (columns (now (rows .entry)) (now (cols .entry)) (now (kinds .entry)) (now
+    ensures { λ _. ⌜ JobLeft (read (now (s .entry))) (held (columns (now (rows .entry)) (now (cols .entry)) (now (kinds .entry)) (now
         (wraps .entry)) (now (nums .entry)) (now
         (ats .entry)) (now (lens .entry))) (now (regionrows .entry)) (now (regioncols .entry)) (now (pool .entry))) (held (columns
         (now (rows .exit)) (now (cols .exit)) (now (kinds .exit)) (now (wraps .exit)) (now (nums .exit)) (now
