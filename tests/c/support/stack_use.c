@@ -21,7 +21,7 @@
 #include "wavendiru.h"
 
 #define ROOM ((size_t)4 << 20)  /* the largest stack that is tried */
-#define STEP ((size_t)16)       /* stacks are tried in steps of this */
+#define STEP ((size_t)64)       /* stacks are tried in steps of this: the loader saves registers at multiples of 64, so all end alike */
 
 static uint8_t text[WAVENDIRU_MAX_TEXT + 1];
 static size_t text_len;
