@@ -8,3 +8,4 @@ pub mod Pairs
 pub mod Whole
 pub mod Feeds
 pub mod NumberFeeds
+pub mod Examples
