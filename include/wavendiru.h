@@ -1,11 +1,11 @@
 /* Conditional marks for embossed sheets: the calls for C.
  *
- * Link with libexports.a (`rt staticlib exports`). No call here keeps state, takes memory or stops the program, and all may be
- * made from any thread, given the stack that wavendiru_whole_job names.
+ * Link with libexports.a (`rt staticlib exports`), and for wavendiru_save_job with libsaveexports.a (`rt staticlib saveexports`). No call
+ * here keeps state, takes memory or stops the program, and all may be made from any thread, given WAVENDIRU_STACK bytes of stack.
  *
- * Floating point: wavendiru_whole_job and wavendiru_ratio rest on the state of the thread that calls them. The caller owes rounding to
- * nearest with ties to even, and subnormal numbers kept: in MXCSR RC = 00, FTZ = 0, DAZ = 0. Every C program on x86-64 Linux starts so;
- * fesetround, -ffast-math at the link, or a library that sets FTZ or DAZ can change it. In another state results differ (tests/c/env).
+ * Floating point: all but wavendiru_channel rest on the state of the thread that calls them. The caller owes rounding to nearest with
+ * ties to even, and subnormal numbers kept: in MXCSR RC = 00, FTZ = 0, DAZ = 0. Every C program on x86-64 Linux starts so; fesetround,
+ * -ffast-math at the link, or a library that sets FTZ or DAZ can change it. In another state ratios and reports differ (tests/c/env).
  */
 #ifndef WAVENDIRU_H
 #define WAVENDIRU_H
@@ -17,19 +17,19 @@
 extern "C" {
 #endif
 
-/* The most bytes that a job text may have. */
+/* The most bytes that a job text may have: a buffer of this length is always long enough for wavendiru_save_job. */
 #define WAVENDIRU_MAX_TEXT 65536
 
 /* The bytes of the longest report that any job can have: a report buffer of this length is always long enough. */
 #define WAVENDIRU_LONGEST_REPORT 42979
 
-/* The bytes of stack that wavendiru_whole_job needs on x86-64, with what the loader takes to bind memcpy and memset at their first call.
- * Measured; tests/c/stack fails where it measures more.
+/* The bytes of stack that wavendiru_whole_job and wavendiru_save_job need on x86-64, with what the loader takes to bind memcpy and memset at
+ * their first call. Measured; tests/c/stack fails where it measures more.
  */
 #define WAVENDIRU_STACK 225280
 
 /* The number of a report, the first field of its second line. Behind it stand place, count and actual; S is the job's starting count.
- * A refusal has no marks. 1, 5 and 6 are refusals of lent columns; no job text has them.
+ * A refusal has no marks. 1, 5 and 6 are refusals of lent columns; no job text has them. 7, 8 and 9 are refusals of deciding, 13 of saving.
  */
 enum wavendiru_number {
     WAVENDIRU_ANSWERED = 0,         /* place 0, the count reached, actual 0 */
@@ -43,7 +43,8 @@ enum wavendiru_number {
     WAVENDIRU_OVER_COUNTER = 8,     /* more evaluations than a 64-bit counter holds: 0, the count there, 0 */
     WAVENDIRU_TOO_MANY_MARKS = 9,   /* over 1,024 marks: 0, the count reached, how many marks */
     WAVENDIRU_LONG_TEXT = 10,       /* a job text over WAVENDIRU_MAX_TEXT bytes: 0, 0, 0 */
-    WAVENDIRU_BAD_LINE = 11         /* a line of the job text is malformed, missing or extra: its number from 1, 0, 0 */
+    WAVENDIRU_BAD_LINE = 11,        /* a line of the job text is malformed, missing or extra: its number from 1, 0, 0 */
+    WAVENDIRU_LONG_SAVED = 13       /* a text to be saved is longer than the lent bytes: 0, S, the length needed */
 };
 
 /* A whole job: reads the job text, decides its marks and bars, and writes the report.
@@ -62,6 +63,16 @@ enum wavendiru_number {
  *     needs to have one.
  */
 size_t wavendiru_whole_job(const uint8_t *text, size_t text_len, uint8_t *report, size_t report_len);
+
+/* A job saved: reads the job text and writes the text of the job read, which is the same text. In libsaveexports.a.
+ *
+ * Result: the text's length in bytes. A text that is turned away (2, 3, 4, 10, 11 or 13) has the two lines of a refused report in its
+ * place, and their length. 0 if what is to be written is longer than saved_len. A job text begins with `l`, a report with `n`.
+ * Written: every one of the saved_len bytes, the text or report first and 0 in all after it; where the result is 0, all are 0.
+ * Inputs: any bytes, any lengths below 2^63, whatever the saved bytes held.
+ * The caller owes: what wavendiru_whole_job asks, with saved for report.
+ */
+size_t wavendiru_save_job(const uint8_t *text, size_t text_len, uint8_t *saved, size_t saved_len);
 
 /* The place of value between minimum and maximum, in parts per million.
  *

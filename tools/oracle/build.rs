@@ -79,14 +79,16 @@ fn add_damaged(modules: &mut String, out: &Path, original: &str) -> Result<Strin
 
 fn link_library() -> Result<(), String> {
     let folder = std::env::var("WAVENDIRU_LIB")
-        .map_err(|_| "WAVENDIRU_LIB is not set: it has to name the folder that holds libexports.a".to_string())?;
-    let archive = Path::new(&folder).join("libexports.a");
-    println!("cargo::rerun-if-changed={}", archive.display());
-    if !archive.is_file() {
-        return Err(format!("WAVENDIRU_LIB={folder} holds no libexports.a (rt staticlib exports writes it)"));
-    }
+        .map_err(|_| "WAVENDIRU_LIB is not set: it has to name the folder that holds libexports.a and libsaveexports.a".to_string())?;
     println!("cargo::rustc-link-search=native={folder}");
-    println!("cargo::rustc-link-lib=static=exports");
+    for name in ["exports", "saveexports"] {
+        let archive = Path::new(&folder).join(format!("lib{name}.a"));
+        println!("cargo::rerun-if-changed={}", archive.display());
+        if !archive.is_file() {
+            return Err(format!("WAVENDIRU_LIB={folder} holds no lib{name}.a (rt staticlib {name} writes it)"));
+        }
+        println!("cargo::rustc-link-lib=static={name}");
+    }
     Ok(())
 }
 

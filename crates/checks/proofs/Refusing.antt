@@ -71,8 +71,8 @@ refused-at j number o e f = e ∙ ap (refusedAt number (j .start)) f ∙ found-r
 
 -- ---- all checks
 
-module _ (j : Job) (l : Lengths) where
-  -- the checks in their order
+module _ (j : Job) where
+  -- the checks 1 to 5 in their order
   unfoldable pub checksOf : List (Option Summary)
   checksOf =
       refuseIf j 1 0 (lengthsDiffer j)
@@ -83,13 +83,13 @@ module _ (j : Job) (l : Lengths) where
       ∷ refuseAt j 4 (firstFall (j .regionRows) (j .regionCols))
       ∷ refuseAt j 5 (firstBadRule (j .pool) 0 (rulesOf j))
       ∷ refuseIf j 5 64 (outside (j .pool) (j .name))
-      ∷ spaceShort j l
       ∷ []
 
-  pub refusal-first : firstOf checksOf ≡ refusalOf j l
-  unfolding refusalOf malformed checksOf
-  refusal-first = sym (first-append _ _)
+  pub malformed-first : firstOf checksOf ≡ malformed j
+  unfolding malformed checksOf
+  malformed-first = refl
 
+module _ (j : Job) (l : Lengths) where
   -- ---- for a caller
 
   -- the lengths of the mark columns have no part in a refusal

@@ -15,7 +15,7 @@ ghost use mathlib.Core.Bool.{cond};
 ghost use mathlib.Core.List.{[], _∷_};
 ghost use mathlib.Core.Option.{none, some};
 ghost use Rattle.model.specs.Answer.{refusal, summary};
-ghost use Rattle.model.specs.Job.{firstOf, outside as isOutside};
+ghost use Rattle.model.specs.Job.{firstOf, outside as isOutside, malformed as malformedAs};
 ghost use Rattle.checks.specs.Checked.{turnedBack, refusedAt, cellColumns, jobOf, spaceOf, refusalOf};
 
 pub mod lengths;
@@ -109,7 +109,59 @@ fn check_sheet_name(pool: &[u8], name: Span, start: u64) -> Checked
     )
 }
 
-// The checks in their order. `bar_rules`, `bar_ppms` and `scratch` are lengths of columns lent for writing.
+// The checks 1 to 5 in their order: a job is well-formed where none of them is met.
+pub fn malformed(
+    rows: &[u32],
+    cols: &[u16],
+    kinds: &[u8],
+    wraps: &[u8],
+    nums: &[u64],
+    ats: &[u32],
+    lens: &[u32],
+    region_rows: &[u32],
+    region_cols: &[u16],
+    pool: &[u8],
+    name: Span,
+    rules: Rules,
+    start: u64,
+) -> Checked
+    ensures { λ r. ⌜ turnedBack r ≡ malformedAs
+        (jobOf
+        (cellColumns (now (rows .entry)) (now (cols .entry)) (now (kinds .entry)) (now (wraps .entry)) (now (nums .entry))
+        (now (ats .entry)) (now (lens .entry)))
+        (now («region_rows» .entry)) (now («region_cols» .entry)) (now (pool .entry)) name rules start) ⌝ }
+{
+    let differ = lengths_differ(
+        rows.len(),
+        cols.len(),
+        kinds.len(),
+        wraps.len(),
+        nums.len(),
+        ats.len(),
+        lens.len(),
+        region_rows.len(),
+        region_cols.len(),
+    );
+    let lengths = refuse_if(differ, Answer::LengthsDiffer { count: start });
+    let over = too_many(rows.len(), region_rows.len(), rules.number, pool.len());
+    let counts = refuse_if(over, Answer::TooMany { count: start });
+    let cells = out_of_bounds(first_bad_cell(rows, cols, kinds, ats, lens, pool), start);
+    let regions = out_of_bounds(first_bad_region(region_rows, region_cols), start);
+    let cell_order = not_rising(first_fall(rows, cols), start);
+    let region_order = not_rising(first_fall(region_rows, region_cols), start);
+    let references = name_outside(first_bad_rule(pool, rules), start);
+    let sheet_name = check_sheet_name(pool, name, start);
+    lengths
+        .or(counts)
+        .or(cells)
+        .or(regions)
+        .or(cell_order)
+        .or(region_order)
+        .or(references)
+        .or(sheet_name)
+}
+
+// The checks 1 to 6 in their order. `bar_rules`, `bar_ppms` and `scratch` are lengths of columns lent for writing.
 pub fn check(
     rows: &[u32],
     cols: &[u16],
@@ -135,35 +187,21 @@ pub fn check(
         (now («region_rows» .entry)) (now («region_cols» .entry)) (now (pool .entry)) name rules start)
         (spaceOf «bar_rules» «bar_ppms» scratch) ⌝ }
 {
-    let differ = lengths_differ(
-        rows.len(),
-        cols.len(),
-        kinds.len(),
-        wraps.len(),
-        nums.len(),
-        ats.len(),
-        lens.len(),
-        region_rows.len(),
-        region_cols.len(),
+    let form = malformed(
+        rows,
+        cols,
+        kinds,
+        wraps,
+        nums,
+        ats,
+        lens,
+        region_rows,
+        region_cols,
+        pool,
+        name,
+        rules,
+        start,
     );
-    let lengths = refuse_if(differ, Answer::LengthsDiffer { count: start });
-    let over = too_many(rows.len(), region_rows.len(), rules.number, pool.len());
-    let counts = refuse_if(over, Answer::TooMany { count: start });
-    let cells = out_of_bounds(first_bad_cell(rows, cols, kinds, ats, lens, pool), start);
-    let regions = out_of_bounds(first_bad_region(region_rows, region_cols), start);
-    let cell_order = not_rising(first_fall(rows, cols), start);
-    let region_order = not_rising(first_fall(region_rows, region_cols), start);
-    let references = name_outside(first_bad_rule(pool, rules), start);
-    let sheet_name = check_sheet_name(pool, name, start);
     let short = space_short(rows.len(), region_rows.len(), bar_rules, bar_ppms, scratch);
-    let space = refuse_if(short, Answer::SpaceShort { count: start });
-    lengths
-        .or(counts)
-        .or(cells)
-        .or(regions)
-        .or(cell_order)
-        .or(region_order)
-        .or(references)
-        .or(sheet_name)
-        .or(space)
+    form.or(refuse_if(short, Answer::SpaceShort { count: start }))
 }

@@ -2,3 +2,4 @@ pub mod Answers
 pub mod Held
 pub mod WholeJobsHeld
 pub mod TextsHeld
+pub mod SavingHeld

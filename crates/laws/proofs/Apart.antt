@@ -137,12 +137,12 @@ rising-apart (c ∷ d ∷ cs) h = (before-free (c .at) d cs (rises-before (c .at
 
 -- ---- the cells of a well-formed job
 
-firstOf-none : (c : Option Summary) (cs : List (Option Summary)) → firstOf (c ∷ cs) ≡ none → (c ≡ none) × (firstOf cs ≡ none)
+pub firstOf-none : (c : Option Summary) (cs : List (Option Summary)) → firstOf (c ∷ cs) ≡ none → (c ≡ none) × (firstOf cs ≡ none)
 unfolding firstOf
 firstOf-none none cs e = (refl, e)
 firstOf-none (some s) cs e = (cc, cc)
 
-refuseAt-none : (j : Job) (number : ℕ) (o : Option ℕ) → refuseAt j number o ≡ none → o ≡ none
+pub refuseAt-none : (j : Job) (number : ℕ) (o : Option ℕ) → refuseAt j number o ≡ none → o ≡ none
 unfolding refuseAt
 refuseAt-none j number none e = refl
 refuseAt-none j number (some place) e = cc

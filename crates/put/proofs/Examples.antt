@@ -1,14 +1,14 @@
 -- The definitions computed, on bytes one short, exact and longer: a piece of bytes, a decimal, a number with the byte that ends it,
--- hexadecimal digits; a text that is kept; zeros from a place on. Assumes nothing.
+-- hexadecimal digits, pairs of these; a text that is kept; zeros from a place on. Assumes nothing.
 use mathlib.Core.Path.{_≡_, refl}
 use mathlib.Core.List.{[], _∷_, _++_}
 use Rattle.memory.specs.Memory.{allOr}
-use Rattle.grammar.specs.Numbers.{decimalText, digits, hexDigit, hexDigits}
+use Rattle.grammar.specs.Numbers.{decimalText, digits, hexDigit, hexDigits, pairsText}
 use Rattle.put.specs.Put.{last, Laid, keptLength, keptBytes}
 
 -- ---- bytes
 
-byte-short : Laid (1 ∷ 2 ∷ []) 2 (7 ∷ []) (0 ∷ 0 ∷ []) last
+byte-short : Laid (1 ∷ 2 ∷ []) 2 (7 ∷ []) (0 ∷ 0 ∷ []) 3
 unfolding allOr
 byte-short = record { bytes = refl; next = refl }
 
@@ -20,7 +20,7 @@ byte-longer : Laid (1 ∷ 2 ∷ 3 ∷ []) 1 (7 ∷ []) (1 ∷ 7 ∷ 3 ∷ []) 2
 unfolding allOr
 byte-longer = record { bytes = refl; next = refl }
 
-piece-short : Laid (1 ∷ 2 ∷ []) 1 (7 ∷ 8 ∷ []) (0 ∷ 0 ∷ []) last
+piece-short : Laid (1 ∷ 2 ∷ []) 1 (7 ∷ 8 ∷ []) (0 ∷ 0 ∷ []) 3
 unfolding allOr
 piece-short = record { bytes = refl; next = refl }
 
@@ -32,18 +32,32 @@ piece-longer : Laid (1 ∷ 2 ∷ 3 ∷ 4 ∷ []) 1 (7 ∷ 8 ∷ []) (1 ∷ 7 ∷
 unfolding allOr
 piece-longer = record { bytes = refl; next = refl }
 
--- after a piece that does not fit none does, and nothing past the end is refused too
-piece-after : Laid (0 ∷ 0 ∷ []) last (7 ∷ []) (0 ∷ 0 ∷ []) last
+-- after a piece that does not fit none does, and the places go on
+piece-after : Laid (0 ∷ 0 ∷ []) 3 (7 ∷ []) (0 ∷ 0 ∷ []) 4
 unfolding allOr
 piece-after = record { bytes = refl; next = refl }
 
-nothing-past-the-end : Laid (1 ∷ 2 ∷ []) 3 [] (0 ∷ 0 ∷ []) last
+-- up to 2^64 - 1
+piece-to-last : Laid (0 ∷ []) 18_446_744_073_709_551_613 (7 ∷ 8 ∷ []) (0 ∷ []) last
+unfolding allOr
+piece-to-last = record { bytes = refl; next = refl }
+
+piece-past-last : Laid (0 ∷ []) 18_446_744_073_709_551_614 (7 ∷ 8 ∷ []) (0 ∷ []) last
+unfolding allOr
+piece-past-last = record { bytes = refl; next = refl }
+
+piece-from-last : Laid (0 ∷ 0 ∷ []) last (7 ∷ []) (0 ∷ 0 ∷ []) last
+unfolding allOr
+piece-from-last = record { bytes = refl; next = refl }
+
+-- nothing past the end is refused too
+nothing-past-the-end : Laid (1 ∷ 2 ∷ []) 3 [] (0 ∷ 0 ∷ []) 3
 unfolding allOr
 nothing-past-the-end = record { bytes = refl; next = refl }
 
 -- ---- numbers
 
-decimal-short : Laid (1 ∷ 2 ∷ []) 1 (decimalText 42) (0 ∷ 0 ∷ []) last
+decimal-short : Laid (1 ∷ 2 ∷ []) 1 (decimalText 42) (0 ∷ 0 ∷ []) 3
 unfolding allOr digits
 decimal-short = record { bytes = refl; next = refl }
 
@@ -55,13 +69,13 @@ decimal-longer : Laid (1 ∷ 2 ∷ 3 ∷ 4 ∷ []) 1 (decimalText 42) (1 ∷ 52 
 unfolding allOr digits
 decimal-longer = record { bytes = refl; next = refl }
 
--- 2^64 - 1 has 20 digits
-decimal-most : Laid [] 0 (decimalText last) [] last
+-- 2^64 - 1 has 20 digits: they are counted
+decimal-most : Laid [] 0 (decimalText last) [] 20
 unfolding allOr digits
 decimal-most = record { bytes = refl; next = refl }
 
 -- its digits fit, and the byte that ends it does not
-number-short : Laid (1 ∷ 2 ∷ []) 0 (decimalText 42 ++ (10 ∷ [])) (0 ∷ 0 ∷ []) last
+number-short : Laid (1 ∷ 2 ∷ []) 0 (decimalText 42 ++ (10 ∷ [])) (0 ∷ 0 ∷ []) 3
 unfolding allOr digits
 number-short = record { bytes = refl; next = refl }
 
@@ -73,7 +87,7 @@ number-longer : Laid (1 ∷ 2 ∷ 3 ∷ 4 ∷ []) 0 (decimalText 42 ++ (10 ∷ [
 unfolding allOr digits
 number-longer = record { bytes = refl; next = refl }
 
-hex-short : Laid (1 ∷ 2 ∷ []) 1 (hexDigits 2 175) (0 ∷ 0 ∷ []) last
+hex-short : Laid (1 ∷ 2 ∷ []) 1 (hexDigits 2 175) (0 ∷ 0 ∷ []) 3
 unfolding allOr hexDigit hexDigits
 hex-short = record { bytes = refl; next = refl }
 
@@ -84,6 +98,18 @@ hex-exact = record { bytes = refl; next = refl }
 hex-longer : Laid (1 ∷ 2 ∷ 3 ∷ 4 ∷ []) 1 (hexDigits 2 175) (1 ∷ 97 ∷ 102 ∷ 4 ∷ []) 3
 unfolding allOr hexDigit hexDigits
 hex-longer = record { bytes = refl; next = refl }
+
+pairs-short : Laid (1 ∷ 2 ∷ 3 ∷ 4 ∷ []) 1 (pairsText (175 ∷ 9 ∷ [])) (0 ∷ 0 ∷ 0 ∷ 0 ∷ []) 5
+unfolding allOr hexDigit pairsText
+pairs-short = record { bytes = refl; next = refl }
+
+pairs-exact : Laid (1 ∷ 2 ∷ 3 ∷ 4 ∷ 5 ∷ []) 1 (pairsText (175 ∷ 9 ∷ [])) (1 ∷ 97 ∷ 102 ∷ 48 ∷ 57 ∷ []) 5
+unfolding allOr hexDigit pairsText
+pairs-exact = record { bytes = refl; next = refl }
+
+pairs-longer : Laid (1 ∷ 2 ∷ 3 ∷ 4 ∷ 5 ∷ 6 ∷ []) 1 (pairsText (175 ∷ 9 ∷ [])) (1 ∷ 97 ∷ 102 ∷ 48 ∷ 57 ∷ 6 ∷ []) 5
+unfolding allOr hexDigit pairsText
+pairs-longer = record { bytes = refl; next = refl }
 
 -- ---- a text of two bytes that is kept
 

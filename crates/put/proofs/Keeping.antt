@@ -11,9 +11,9 @@ use lib.ListN.{length, take, drop, set, replicate, length-set}
 use lib.Seq.{take-all, take-suc-set, take-append-seam, sets-eq}
 use borrow.Author.Tests.{leb-true, leb-false, le-leb, lt-leb}
 use Rattle.memory.specs.Memory.{page, pageLength}
-use Rattle.memory.proofs.Laws.{text-fits, text-over}
-use Rattle.put.specs.Put.{last, Laid, keptLength, keptBytes}
-use Rattle.put.proofs.Laws.{laid-length, fits-next, fits-bytes, over-next}
+use Rattle.memory.proofs.Laws.{all-fits, text-fits, text-over}
+use Rattle.put.specs.Put.{Stops, keptLength, keptBytes}
+use Rattle.put.proofs.Laws.{stops-length}
 
 -- ---- zeros from a place on
 
@@ -56,24 +56,23 @@ pub record Page (n : ℕ) (ts f : List ℕ) (r : ℕ) : Type 0 where
   pub length : r ≡ pageLength n ts
   pub bytes : f ≡ page n ts
 
-module _ {d ts e f : List ℕ} {q r : ℕ} (room : length d < last) (a : Laid d 0 ts e q) (k : r ≡ keptLength (length e) q)
-    (b : f ≡ keptBytes e r) where
+module _ {d ts e f : List ℕ} {q r : ℕ} (a : Stops d 0 ts e q) (k : r ≡ keptLength (length e) q) (b : f ≡ keptBytes e r) where
   long : length e ≡ length d
-  long = laid-length a
+  long = stops-length a
 
   fits : length ts ≤ length d → Page (length d) ts f r
   fits h =
       let text = text-fits (length d) ts h in
-      let end : q ≡ length ts = omega (arith, fits-next a (omega arith)) in
+      let end : q ≡ length ts = omega (arith, a .fits (omega arith)) in
       let kept : r ≡ length ts = k ∙ rw (end, long, le-leb (length ts) (length d) h) in
-      let laid : e ≡ ts ++ drop (0 + length ts) d = fits-bytes a (omega arith) ∙ sets-eq ts d 0 (omega arith) in
+      let laid : e ≡ ts ++ drop (0 + length ts) d = a .bytes ∙ (all-fits 0 d 0 ts (omega arith) ∙ sets-eq ts d 0 (omega arith)) in
       let first : take (length ts) e ≡ ts = rw laid (take-append-seam ts _) in
       record { length = kept ∙ sym (text .0); bytes = b ∙ ((rw (kept, first, long)) ∙ sym (text .1)) }
 
   over : length d < length ts → Page (length d) ts f r
   over h =
       let text = text-over (length d) ts h in
-      let end : q ≡ last = over-next a (omega arith) in
+      let past : length d < q = a .over (omega arith) in
       let kept : r ≡ 0 = k ∙ rw (lt-leb q (length e) (omega (arith, long))) in
       let zeros : keptBytes e 0 ≡ replicate (length d) 0 = none-kept e ∙ ap (λ (n : ℕ). replicate n 0) long in
       record { length = kept ∙ sym (text .0); bytes = b ∙ ((rw kept zeros) ∙ sym (text .1)) }

@@ -1,4 +1,4 @@
--- Laws of writing one piece of text after another, straight on and in a loop.
+-- Laws of writing one piece of text after another, straight on and in a loop, and of a text that is counted.
 -- Assumes nothing.
 use Prim.Native.Nat.{ℕ, _+_, _-_, _≤_, _<_}
 use native.Mathlib.Omega.{arith}
@@ -10,8 +10,8 @@ use lib.ListN.{length, replicate, length-append}
 use lib.Seq.{sets}
 use borrow.Author.Tests.{leb-true, leb-false, le-leb, lt-leb}
 use Rattle.memory.specs.Memory.{allOrZeros}
-use Rattle.memory.proofs.Laws.{all-fits, all-over, all-append, length-all}
-use Rattle.put.specs.Put.{last, placeAfter, Laid, Ready}
+use Rattle.memory.proofs.Laws.{all-fits, all-over, all-none, all-append, length-all}
+use Rattle.put.specs.Put.{last, placeAfter, Laid, Stops, Ready}
 
 -- ---- a piece
 
@@ -23,83 +23,111 @@ room-left size at n h = go (leb n (size - at)) refl
     go false e = e ∙ sym (lt-leb (at + n) size (omega (arith, leb-false n (size - at) e)))
 
 module _ {d e : List ℕ} {at r : ℕ} {ts : List ℕ} where
-  pub laid-fits : at + length ts ≤ length d → e ≡ sets d at ts → r ≡ at + length ts → Laid d at ts e r
-  laid-fits h b n = record { bytes = b ∙ sym (all-fits 0 d at ts h); next = rw (le-leb (at + length ts) (length d) h) n }
+  pub laid-fits : length d < last → at + length ts ≤ length d → e ≡ sets d at ts → r ≡ at + length ts → Laid d at ts e r
+  laid-fits room h b n = record { bytes = b ∙ sym (all-fits 0 d at ts h); next = omega arith }
 
-  pub laid-over : length d < at + length ts → e ≡ replicate (length d) 0 → r ≡ last → Laid d at ts e r
-  laid-over h b n = record { bytes = b ∙ sym (all-over 0 d at ts true h); next = rw (lt-leb (at + length ts) (length d) h) n }
+  pub laid-over : length d < at + length ts → e ≡ replicate (length d) 0 → r ≡ placeAfter at (length ts) → Laid d at ts e r
+  laid-over h b n = record { bytes = b ∙ sym (all-over 0 d at ts true h); next = n }
 
   -- the same text under another name
   pub laid-as : {us : List ℕ} → Laid d at ts e r → us ≡ ts → Laid d at us e r
   laid-as a p = rw p a
 
--- nothing, within the bytes
-pub laid-none : (d : List ℕ) (at : ℕ) → at ≤ length d → Ready d at
-laid-none d at h = laid-fits (omega arith) refl (omega arith)
+  pub stops-as : {us : List ℕ} → Stops d at ts e r → us ≡ ts → Stops d at us e r
+  stops-as a p = rw p a
 
-module _ {d e : List ℕ} {at r : ℕ} {ts : List ℕ} (a : Laid d at ts e r) where
-  pub laid-length : length e ≡ length d
-  laid-length = ap length (a .bytes) ∙ length-all 0 d at ts true
+  pub laid-length : Laid d at ts e r → length e ≡ length d
+  laid-length a = ap length (a .bytes) ∙ length-all 0 d at ts true
 
-  pub fits-next : at + length ts ≤ length d → r ≡ at + length ts
-  fits-next h = a .next ∙ rw (le-leb (at + length ts) (length d) h)
+  pub stops-length : Stops d at ts e r → length e ≡ length d
+  stops-length a = ap length (a .bytes) ∙ length-all 0 d at ts true
 
-  pub fits-bytes : at + length ts ≤ length d → e ≡ sets d at ts
-  fits-bytes h = a .bytes ∙ all-fits 0 d at ts h
-
-  pub over-next : length d < at + length ts → r ≡ last
-  over-next h = a .next ∙ rw (lt-leb (at + length ts) (length d) h)
-
-  pub over-bytes : length d < at + length ts → e ≡ replicate (length d) 0
-  over-bytes h = a .bytes ∙ all-over 0 d at ts true h
+  pub stops-of-laid : length d < last → Laid d at ts e r → Stops d at ts e r
+  stops-of-laid room a =
+      let n = a .next in
+      record { bytes = a .bytes; fits = λ h. omega arith; over = λ h. omega arith }
 
   -- what comes next can go on from there
-  pub laid-ready : length d < last → Ready e r
-  laid-ready room = go (leb (at + length ts) (length d)) refl
+  pub stops-ready : Stops d at ts e r → r ≤ last → Ready e r
+  stops-ready a most = record { bytes = go (leb (at + length ts) (length d)) refl; next = omega arith }
     where
-      go : (b : Bool) → leb (at + length ts) (length d) ≡ b → Ready e r
+      long : length e ≡ length d
+      long = stops-length a
+
+      go : (b : Bool) → leb (at + length ts) (length d) ≡ b → e ≡ allOrZeros true e r []
       go true t =
           let h : at + length ts ≤ length d = leb-true _ _ t in
-          laid-none e r (omega (arith, laid-length, fits-next h))
+          sym (all-none 0 e r (omega (arith, long, a .fits h)))
       go false t =
           let h : length d < at + length ts = leb-false _ _ t in
-          laid-over (omega (arith, laid-length, over-next h)) (over-bytes h ∙ ap (λ (n : ℕ). replicate n 0) (sym laid-length)) (over-next h)
+          a .bytes
+          ∙ (all-over 0 d at ts true h
+          ∙ (ap (λ (n : ℕ). replicate n 0) (sym long) ∙ sym (all-over 0 e r [] true (omega (arith, long, a .over h)))))
+
+  pub laid-ready : Laid d at ts e r → length d < last → Ready e r
+  laid-ready a room = let n = a .next in stops-ready (stops-of-laid room a) (omega arith)
+
+-- nothing, within the bytes
+pub laid-none : (d : List ℕ) (at : ℕ) → length d < last → at ≤ length d → Ready d at
+laid-none d at room h = laid-fits room (omega arith) refl (omega arith)
+
+-- a text laid into no bytes at all is counted
+pub laid-counted : {ts e : List ℕ} {r : ℕ} → Laid [] 0 ts e r → length ts ≤ last → r ≡ length ts
+laid-counted a h = let n = a .next in omega arith
 
 -- ---- one piece after another
 
-module _ {d e f : List ℕ} {at r q : ℕ} {xs ys : List ℕ} (room : length d < last) (a : Laid d at xs e r) (b : Laid e r ys f q) where
-  more : length (xs ++ ys) ≡ length xs + length ys
-  more = length-append xs ys
+module _ {d e f : List ℕ} {at r q : ℕ} {xs ys : List ℕ} where
+  module _ (a : Stops d at xs e r) (b : Stops e r ys f q) where
+    both : at + length xs ≤ length d → Stops d at (xs ++ ys) f q
+    both h =
+        let more = length-append xs ys in
+        let n : r ≡ at + length xs = a .fits h in
+        let long : length e ≡ length d = stops-length a in
+        record {
+          bytes = b .bytes
+              ∙ (ap (λ (l : List ℕ). allOrZeros true l r ys) (a .bytes)
+              ∙ (ap (λ (i : ℕ). allOrZeros true (allOrZeros true d at xs) i ys) n ∙ sym (all-append 0 d at xs ys)));
+          fits = λ g. omega (arith, b .fits (omega arith));
+          over = λ g. omega (arith, b .over (omega arith));
+        }
 
-  both : at + length xs ≤ length d → Laid d at (xs ++ ys) f q
-  both h =
-      let n : r ≡ at + length xs = fits-next a h in
-      let end : r + length ys ≡ at + length (xs ++ ys) = omega (arith, more) in
+    -- once a piece does not fit, none does
+    none : length d < at + length xs → Stops d at (xs ++ ys) f q
+    none h =
+        let more = length-append xs ys in
+        let long : length e ≡ length d = stops-length a in
+        let past : length e < r + length ys = omega (arith, a .over h) in
+        let whole : length d < at + length (xs ++ ys) = omega arith in
+        record {
+          bytes = b .bytes
+              ∙ (all-over 0 e r ys true past ∙ (ap (λ (n : ℕ). replicate n 0) long ∙ sym (all-over 0 d at (xs ++ ys) true whole)));
+          fits = λ g. omega arith;
+          over = λ g. omega (arith, b .over past);
+        }
+
+    pub stops-then : Stops d at (xs ++ ys) f q
+    stops-then = go (leb (at + length xs) (length d)) refl
+      where
+        go : (x : Bool) → leb (at + length xs) (length d) ≡ x → Stops d at (xs ++ ys) f q
+        go true t = both (leb-true _ _ t)
+        go false t = none (leb-false _ _ t)
+
+  pub laid-then : length d < last → Laid d at xs e r → Laid e r ys f q → Laid d at (xs ++ ys) f q
+  laid-then room a b =
+      let m = a .next in
+      let n = b .next in
+      let more = length-append xs ys in
       record {
-        bytes = b .bytes
-            ∙ (ap (λ (l : List ℕ). allOrZeros true l r ys) (a .bytes)
-            ∙ (ap (λ (i : ℕ). allOrZeros true (allOrZeros true d at xs) i ys) n ∙ sym (all-append 0 d at xs ys)));
-        next = b .next ∙ rw (end, laid-length a);
+        bytes = stops-then (stops-of-laid room a) (stops-of-laid (omega (arith, laid-length a)) b) .bytes;
+        next = omega arith;
       }
-
-  -- once a piece does not fit, none does
-  over : length d < at + length xs → Laid d at (xs ++ ys) f q
-  over h =
-      let past : length e < r + length ys = omega (arith, laid-length a, over-next a h) in
-      laid-over (omega (arith, more)) (over-bytes b past ∙ ap (λ (n : ℕ). replicate n 0) (laid-length a)) (over-next b past)
-
-  pub laid-then : Laid d at (xs ++ ys) f q
-  laid-then = go (leb (at + length xs) (length d)) refl
-    where
-      go : (x : Bool) → leb (at + length xs) (length d) ≡ x → Laid d at (xs ++ ys) f q
-      go true t = both (leb-true _ _ t)
-      go false t = over (leb-false _ _ t)
 
 -- ---- pieces in a loop
 
 -- laying us over e from q on gives what laying ts over d from `at` on gives
 pub record LaidLeft (d : List ℕ) (at : ℕ) (ts e : List ℕ) (q : ℕ) (us : List ℕ) : Type 0 where
-  pub whole : Laid d at ts (allOrZeros true e q us) (placeAfter (length e) q (length us))
+  pub whole : Laid d at ts (allOrZeros true e q us) (placeAfter q (length us))
   pub ready : Ready e q
 
 pub left-begun : {d : List ℕ} {at : ℕ} {ts : List ℕ} → Ready d at → LaidLeft d at ts d at ts
@@ -113,12 +141,12 @@ pub left-more : {d e f : List ℕ} {at q r : ℕ} {ts vs xs us : List ℕ} → l
     → vs ≡ xs ++ us → Laid e q xs f r → LaidLeft d at ts f r us
 left-more {d} {e} {f} {at} {q} {r} {ts} {vs} {xs} {us} room l p a =
     let long : length e < last = omega (arith, left-length l) in
-    let rest : Laid e q (xs ++ us) (allOrZeros true f r us) (placeAfter (length f) r (length us)) =
+    let rest : Laid e q (xs ++ us) (allOrZeros true f r us) (placeAfter r (length us)) =
     laid-then long a (record { bytes = refl; next = refl }) in
     record {
       whole = record {
         bytes = rest .bytes ∙ (ap (λ (x : List ℕ). allOrZeros true e q x) (sym p) ∙ l .whole .bytes);
-        next = rest .next ∙ (ap (λ (x : List ℕ). placeAfter (length e) q (length x)) (sym p) ∙ l .whole .next);
+        next = rest .next ∙ (ap (λ (x : List ℕ). placeAfter q (length x)) (sym p) ∙ l .whole .next);
       };
       ready = laid-ready a long;
     }
@@ -127,16 +155,18 @@ pub left-done : {d e : List ℕ} {at q : ℕ} {ts vs : List ℕ} → LaidLeft d 
 left-done {d} {e} {at} {q} {ts} {vs} l p =
     record {
       bytes = l .ready .bytes ∙ (ap (λ (x : List ℕ). allOrZeros true e q x) (sym p) ∙ l .whole .bytes);
-      next = l .ready .next ∙ (ap (λ (x : List ℕ). placeAfter (length e) q (length x)) (sym p) ∙ l .whole .next);
+      next = l .ready .next ∙ (ap (λ (x : List ℕ). placeAfter q (length x)) (sym p) ∙ l .whole .next);
     }
 
 -- a piece did not fit: nothing that is left does
-pub left-stopped : {d e : List ℕ} {at q : ℕ} {ts vs : List ℕ} → length d < last → LaidLeft d at ts e q vs → q ≡ last → Laid d at ts e q
-left-stopped {d} {e} {at} {q} {ts} {vs} room l s =
-    let past : length e < q = omega (arith, left-length l) in
-    let zeros : e ≡ replicate (length e) 0 = over-bytes (l .ready) (omega arith) in
-    let rest : Laid e q vs (allOrZeros true e q vs) (placeAfter (length e) q (length vs)) = record { bytes = refl; next = refl } in
+pub left-stopped : {d e : List ℕ} {at q : ℕ} {ts vs : List ℕ} → length d < last → LaidLeft d at ts e q vs → length e < q
+    → Stops d at ts e q
+left-stopped {d} {e} {at} {q} {ts} {vs} room l past =
+    let long : length e ≡ length d = left-length l in
+    let n = l .whole .next in
+    let zeros : e ≡ replicate (length e) 0 = l .ready .bytes ∙ all-over 0 e q [] true (omega arith) in
     record {
       bytes = zeros ∙ (sym (all-over 0 e q vs true (omega arith)) ∙ l .whole .bytes);
-      next = s ∙ (sym (over-next rest (omega arith)) ∙ l .whole .next);
+      fits = λ h. omega arith;
+      over = λ h. omega arith;
     }

@@ -1,6 +1,6 @@
--- Laws of a piece that is stored byte by byte: from its first byte on, and, for hexadecimal digits, from the last one back.
--- Assumes nothing.
-use Prim.Native.Nat.{ℕ, zero, suc, _+_, _-_, _/_, _%_, _≤_, _<_}
+-- Laws of a piece that is stored byte by byte: from its first byte on, for hexadecimal digits from the last one back, and for bytes as
+-- pairs of digits a pair a turn. Assumes nothing.
+use Prim.Native.Nat.{ℕ, zero, suc, _+_, _-_, _*_, _/_, _%_, _≤_, _<_}
 use native.Mathlib.Nat.{not-suc-le-zero}
 use native.Mathlib.Numerals.{add-one}
 use native.Mathlib.Omega.{arith}
@@ -9,7 +9,7 @@ use mathlib.Core.List.{List, [], _∷_}
 use lib.ListN.{length, drop, getD, set, length-set, drop-of-length-le}
 use lib.Seq.{drop-cons, sets, set-comm}
 use Rattle.memory.proofs.Laws.{sets-append}
-use Rattle.grammar.specs.Numbers.{hexDigit, hexDigits}
+use Rattle.grammar.specs.Numbers.{hexDigit, hexDigits, pairsText}
 use Rattle.grammar.proofs.Hexadecimals.{length-digits}
 
 -- ---- from the first byte on
@@ -90,3 +90,41 @@ pub digits-done : {d : List ℕ} {at k n : ℕ} {e : List ℕ} {left rest : ℕ}
 unfolding hexDigits
 digits-done {d} {at} {k} {n} {e} {left} {rest} s h =
     sym (ap (λ (i : ℕ). sets e at (hexDigits i rest)) h) ∙ s .bytes
+
+-- ---- a pair a turn
+
+pub length-pairs : (bs : List ℕ) → length (pairsText bs) ≡ length bs * 2
+unfolding pairsText
+length-pairs [] = refl
+length-pairs (b ∷ bs) = let h = length-pairs bs in omega arith
+
+-- the pairs of i bytes are stored, up to q: with the others, e is d with all pairs in it
+pub record Pairs (d : List ℕ) (at : ℕ) (bs e : List ℕ) (q i : ℕ) : Type 0 where
+  pub bytes : sets e q (pairsText (drop i bs)) ≡ sets d at (pairsText bs)
+  pub long : length e ≡ length d
+  pub place : q ≡ at + i * 2
+  pub most : i ≤ length bs
+  pub room : at + length bs * 2 ≤ length d
+
+pub pairs-begun : {d : List ℕ} {at : ℕ} {bs : List ℕ} → at + length bs * 2 ≤ length d → Pairs d at bs d at 0
+pairs-begun h = record { bytes = refl; long = refl; place = omega arith; most = omega arith; room = h }
+
+pub pairs-more : {d : List ℕ} {at : ℕ} {bs e : List ℕ} {q i : ℕ} (g h : ℕ) → Pairs d at bs e q i → i < length bs
+    → g ≡ hexDigit (getD bs i 0 / 16) → h ≡ hexDigit (getD bs i 0 % 16) → Pairs d at bs (set (set e q g) (q + 1) h) (q + 2) (i + 1)
+unfolding pairsText
+pairs-more {d} {at} {bs} {e} {q} {i} g h s less high low =
+    let pair : sets (set (set e q g) (suc q) h) (suc (suc q)) (pairsText (drop (suc i) bs)) ≡ sets e q (pairsText (drop i bs)) =
+    rw (drop-cons bs i 0, high, low) in
+    let two : q + 2 ≡ suc (suc q) = omega arith in
+    record {
+      bytes = rw (two, add-one q, add-one i) (pair ∙ s .bytes);
+      long = length-set (set e q g) (q + 1) h ∙ (length-set e q g ∙ s .long);
+      place = let p = s .place in omega arith;
+      most = omega arith;
+      room = s .room;
+    }
+
+pub pairs-done : {d : List ℕ} {at : ℕ} {bs e : List ℕ} {q i : ℕ} → Pairs d at bs e q i → length bs ≤ i → e ≡ sets d at (pairsText bs)
+unfolding pairsText
+pairs-done {d} {at} {bs} {e} {q} {i} s h =
+    sym (ap (λ (x : List ℕ). sets e q (pairsText x)) (drop-of-length-le _ h)) ∙ s .bytes

@@ -1,21 +1,28 @@
-// Text written into lent bytes, piece after piece: each function hands back the place after its piece. A piece that does not fit leaves
-// zeros from end to end.
+// Text written into lent bytes, piece after piece: each function hands back the place behind its piece. A piece that does not fit leaves
+// zeros from end to end, and its place is the same: a text laid into no bytes at all is counted.
 ghost use Prim.Native.Nat.{_<_};
 ghost use mathlib.Core.Path.{_≡_};
 ghost use mathlib.Core.List.{[], _∷_, _++_};
 ghost use lib.ListN.{length};
 ghost use Rattle.memory.specs.Memory.{fits};
-ghost use Rattle.grammar.specs.Numbers.{decimalText, hexDigit, hexDigits};
-ghost use Rattle.put.specs.Put.{Laid, keptLength, keptBytes};
+ghost use Rattle.grammar.specs.Parts.{bytes};
+ghost use Rattle.grammar.specs.Numbers.{decimalText, hexDigit, hexDigits, pairsText};
+ghost use Rattle.put.specs.Put.{placeAfter, Laid, keptLength, keptBytes};
 
-// The place after a piece that does not fit.
-pub const LAST: usize = 18446744073709551615;
+const LAST: usize = 18446744073709551615;
 
 // Whether n bytes from a place on are within a length.
 fn has_room(len: usize, at: usize, n: usize) -> bool
     ensures { λ r. ⌜ r ≡ fits len at n ⌝ }
 {
     at <= len && n <= len - at
+}
+
+// The place behind n bytes, also where they do not fit.
+fn place_after(at: usize, n: usize) -> usize
+    ensures { λ r. ⌜ r ≡ placeAfter at n ⌝ }
+{
+    if n <= LAST - at { at + n } else { LAST }
 }
 
 pub fn put_byte(text: &mut [u8], at: usize, b: u8) -> usize
@@ -26,7 +33,7 @@ pub fn put_byte(text: &mut [u8], at: usize, b: u8) -> usize
         return at + 1;
     }
     clear_from(text, 0);
-    LAST
+    place_after(at, 1)
 }
 
 pub fn put_bytes(text: &mut [u8], at: usize, piece: &[u8]) -> usize
@@ -34,7 +41,7 @@ pub fn put_bytes(text: &mut [u8], at: usize, piece: &[u8]) -> usize
 {
     if !has_room(text.len(), at, piece.len()) {
         clear_from(text, 0);
-        return LAST;
+        return place_after(at, piece.len());
     }
     let mut i = 0;
     while i < piece.len() {
@@ -81,7 +88,7 @@ pub fn put_hex(text: &mut [u8], at: usize, k: usize, n: u64) -> usize
 {
     if !has_room(text.len(), at, k) {
         clear_from(text, 0);
-        return LAST;
+        return place_after(at, k);
     }
     let mut left = k;
     let mut rest = n;
@@ -91,6 +98,36 @@ pub fn put_hex(text: &mut [u8], at: usize, k: usize, n: u64) -> usize
         rest = rest / 16;
     }
     at + k
+}
+
+// Bytes, each as two hexadecimal digits.
+pub fn put_pairs(text: &mut [u8], at: usize, piece: &[u8]) -> usize
+    ensures { λ r. ⌜ Laid (now (text .entry)) at (pairsText (now (piece .entry))) (now (text .exit)) r ⌝ }
+{
+    let n = piece.len() * 2;
+    if !has_room(text.len(), at, n) {
+        clear_from(text, 0);
+        return place_after(at, n);
+    }
+    let mut end = at;
+    let mut i = 0;
+    while i < piece.len() {
+        let b = piece[i] as u64;
+        text[end] = hex_digit(b / 16);
+        text[end + 1] = hex_digit(b % 16);
+        end += 2;
+        i += 1;
+    }
+    end
+}
+
+// `t`, bytes as pairs of digits, and the byte that ends the field.
+pub fn put_text(text: &mut [u8], at: usize, piece: &[u8], end: u8) -> usize
+    ensures { λ r. ⌜ Laid (now (text .entry)) at (bytes "t" ++ (pairsText (now (piece .entry)) ++ (end ∷ []))) (now (text .exit)) r ⌝ }
+{
+    let t = put_byte(text, at, b't');
+    let digits = put_pairs(text, t, piece);
+    put_byte(text, digits, end)
 }
 
 // Zeros from a place on.

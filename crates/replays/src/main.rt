@@ -1,9 +1,15 @@
-// Replays the lists that its arguments name: decides each job again and holds its report against the one in the list. Before them, one
-// job text is read into memories of several lengths.
+// Replays the lists that its arguments name: decides each job again and holds its report against the one in the list, saves it again, and
+// saves its columns with their free parts filled at random. Before them, one job text is read into memories of several lengths.
+mod freeparts;
+mod freerules;
+mod layout;
 mod list;
 mod memories;
+mod random;
+mod saving;
 
 use crate::list::Line;
+use crate::saving::Outcome;
 use libc::STDOUT_FILENO;
 ghost use Rattle.io.specs.Counts.{Counts};
 
@@ -12,11 +18,17 @@ const TEXT: usize = 131072;
 
 const REPORT: usize = 65536;
 
-// A list on the way: the place in it, how many jobs it has had and how many of them mismatched, and whether it has ended or has a fault.
+// A list on the way: the place in it, how many jobs it has had and how many of them mismatched, what saving them again came to, how many
+// columns were filled and differed, and whether the list has ended or has a fault.
 struct State {
     at: u64,
     jobs: u64,
     mismatches: u64,
+    equal: u64,
+    refused: u64,
+    differ: u64,
+    filled: u64,
+    astray: u64,
     ended: bool,
     fault: u8,
 }
@@ -26,6 +38,11 @@ fn begin() -> State {
         at: 0,
         jobs: 0,
         mismatches: 0,
+        equal: 0,
+        refused: 0,
+        differ: 0,
+        filled: 0,
+        astray: 0,
         ended: false,
         fault: 0,
     }
@@ -57,6 +74,58 @@ fn write_mismatch(job: u64, place: usize) {
     io::write_all(STDOUT_FILENO, b" differs\n");
 }
 
+fn write_unlike(job: u64, place: usize) {
+    io::write_all(STDOUT_FILENO, b"job ");
+    io::print_decimal(STDOUT_FILENO, job);
+    io::write_all(STDOUT_FILENO, b" saved again: byte ");
+    io::print_decimal(STDOUT_FILENO, place as u64);
+    io::write_all(STDOUT_FILENO, b" differs\n");
+}
+
+fn counted(mut st: State, saved: Outcome) -> State {
+    if saved.what == saving::EQUAL {
+        st.equal = one_more(st.equal);
+    } else if saved.what == saving::REFUSED_ALIKE {
+        st.refused = one_more(st.refused);
+    } else {
+        write_unlike(st.jobs, saved.place);
+        st.differ = one_more(st.differ);
+    }
+    st
+}
+
+fn write_astray(job: u64, rounds: u64) {
+    io::write_all(STDOUT_FILENO, b"job ");
+    io::print_decimal(STDOUT_FILENO, job);
+    io::write_all(STDOUT_FILENO, b": ");
+    io::print_decimal(STDOUT_FILENO, rounds);
+    io::write_all(
+        STDOUT_FILENO,
+        b" columns with free parts filled at random differ\n",
+    );
+}
+
+// Columns of a job whose text is saved as it was.
+fn filled(mut st: State, text: &[u8]) -> State {
+    let n = freeparts::differing(text, st.jobs);
+    if n > 0 {
+        write_astray(st.jobs, n);
+    }
+    st.astray = std::num::wrapping_add_u64(st.astray, n);
+    st.filled = std::num::wrapping_add_u64(st.filled, freeparts::ROUNDS);
+    st
+}
+
+// Saves the job again.
+fn saved(st: State, text: &[u8], report: &[u8]) -> State {
+    let outcome = saving::save_again(text, report);
+    let st = counted(st, outcome);
+    if outcome.what == saving::EQUAL {
+        return filled(st, text);
+    }
+    st
+}
+
 fn compared(mut st: State, expected: &[u8], given: &[u8]) -> State {
     let place = list::difference(expected, given);
     if place < expected.len() || place < given.len() {
@@ -79,6 +148,7 @@ fn replay_report(fd: i32, mut st: State, text: &[u8], line: Line) -> State {
     // the longest report
     let mut report = [0u8; 42979];
     let n = report_on(text, &mut report);
+    let st = saved(st, text, &report[..n]);
     compared(st, &expected[..length], &report[..n])
 }
 
@@ -152,7 +222,25 @@ fn write_fault(fault: u8) -> bool {
     }
 }
 
-// The last line for a list: its counts, or its fault.
+// The rest of a list's last line, and the line for its columns.
+fn write_saved(st: State) {
+    io::write_all(STDOUT_FILENO, b"; saved again: ");
+    io::print_decimal(STDOUT_FILENO, st.equal);
+    io::write_all(STDOUT_FILENO, b" equal, ");
+    io::print_decimal(STDOUT_FILENO, st.refused);
+    io::write_all(STDOUT_FILENO, b" refused alike, ");
+    io::print_decimal(STDOUT_FILENO, st.differ);
+    io::write_all(STDOUT_FILENO, b" differ\n");
+    io::print_decimal(STDOUT_FILENO, st.filled);
+    io::write_all(
+        STDOUT_FILENO,
+        b" columns with free parts filled at random: ",
+    );
+    io::print_decimal(STDOUT_FILENO, st.astray);
+    io::write_all(STDOUT_FILENO, b" differ\n");
+}
+
+// The last lines for a list: its counts, or its fault.
 fn write_end(name: &[u8], st: State) {
     io::write_all(STDOUT_FILENO, name);
     if !st.ended {
@@ -167,7 +255,8 @@ fn write_end(name: &[u8], st: State) {
     io::print_decimal(STDOUT_FILENO, st.jobs);
     io::write_all(STDOUT_FILENO, b" jobs, ");
     io::print_decimal(STDOUT_FILENO, st.mismatches);
-    io::write_all(STDOUT_FILENO, b" mismatches\n");
+    io::write_all(STDOUT_FILENO, b" mismatches");
+    write_saved(st);
 }
 
 fn replay_file(name: &[u8]) {

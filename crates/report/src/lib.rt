@@ -2,7 +2,6 @@
 use lent::at_u32;
 use model::Answer;
 use model::Paint;
-use put::LAST;
 use put::keep;
 use put::put_byte;
 use put::put_bytes;
@@ -16,7 +15,7 @@ ghost use lib.ListN.{length};
 ghost use Rattle.memory.specs.Memory.{pageOf};
 ghost use Rattle.model.specs.Answer.{refusal, summary};
 ghost use Rattle.grammar.specs.Parts.{timesText};
-ghost use Rattle.put.specs.Put.{Laid, Ready};
+ghost use Rattle.put.specs.Put.{Laid, Stops, Ready};
 ghost use Rattle.reporttext.specs.Report.{number, colour, dash, orDash, paintText, markLine, barLine, barLines};
 ghost use Rattle.reporttext.specs.Report.{summaryText, marksText, barsText, reportOf};
 ghost use Rattle.reporttext.specs.Shown.{markOf, markIn, marksIn, barOf, barsIn, printed, resultIn, holdsMarks};
@@ -182,14 +181,14 @@ fn put_mark_lines(
     ppms: &[u32],
 ) -> usize
     requires { ⌜ Ready (now text) at ⌝ }
-    ensures { λ r. ⌜ Laid (now (text .entry)) at (timesText markLine (marksIn (now (regions .entry)) (now (rules .entry))
+    ensures { λ r. ⌜ Stops (now (text .entry)) at (timesText markLine (marksIn (now (regions .entry)) (now (rules .entry))
         (now (kinds .entry)) (now (colours .entry)) (now (ppms .entry)) 0 n)) (now (text .exit)) r ⌝ }
 {
     let mut end = at;
     let mut i = 0;
     while i < n {
         end = put_mark_at(text, end, i as usize, regions, rules, kinds, colours, ppms);
-        if end == LAST {
+        if text.len() < end {
             return end;
         }
         i += 1;
@@ -213,14 +212,14 @@ fn put_bar(text: &mut [u8], at: usize, region: usize, rule: u32, ppm: u32) -> us
 // The lines of all bars, up to the first that does not fit.
 fn put_bar_lines(text: &mut [u8], at: usize, rules: &[u32], ppms: &[u32]) -> usize
     requires { ⌜ Ready (now text) at ⌝ }
-    ensures { λ r. ⌜ Laid (now (text .entry)) at (barLines 0 (barsIn (now (rules .entry)) (now (ppms .entry)) 0
+    ensures { λ r. ⌜ Stops (now (text .entry)) at (barLines 0 (barsIn (now (rules .entry)) (now (ppms .entry)) 0
         (length (now (rules .entry))))) (now (text .exit)) r ⌝ }
 {
     let mut end = at;
     let mut i = 0;
     while i < rules.len() {
         end = put_bar(text, end, i, rules[i], at_u32(ppms, i));
-        if end == LAST {
+        if text.len() < end {
             return end;
         }
         i += 1;
@@ -243,7 +242,7 @@ fn put_answer(
     barrules: &[u32],
     barppms: &[u32],
 ) -> usize
-    ensures { λ r. ⌜ Laid (now (text .entry)) at (marksText (marksIn (now (regions .entry)) (now (rules .entry)) (now (kinds .entry))
+    ensures { λ r. ⌜ Stops (now (text .entry)) at (marksText (marksIn (now (regions .entry)) (now (rules .entry)) (now (kinds .entry))
         (now (colours .entry)) (now (ppms .entry)) 0 n)
         ++ barsText (barsIn (now (barrules .entry)) (now (barppms .entry)) 0 (length (now (barrules .entry))))) (now (text .exit)) r ⌝ }
 {

@@ -161,7 +161,7 @@ module _ (j : JobText) where
 -- ---- numbers
 
 -- a refusal, if it is one, with a number of the list
-abbrev Among : List ℕ → Option Summary → Type 0
+abbrev pub Among : List ℕ → Option Summary → Type 0
 Among ks none = Unit
 Among ks (some s) = OneOf ks (s .number)
 
@@ -214,17 +214,17 @@ limited-among limit start space r = go (spend limit start (r .charges))
     go (Charged.CoordinateOverflow c) = hit jobNumbers 8 tt
 
 module _ (j : JobText) (r : Readable j) where
-  malformed-among : Among jobNumbers (malformed (laid j))
+  -- the checks refuse it with 3 or 4 alone
+  pub malformed-among : (ks : List ℕ) → OneOf ks 3 → OneOf ks 4 → Among ks (malformed (laid j))
   unfolding malformed
-  malformed-among =
-      let ks = jobNumbers in
+  malformed-among ks three four =
       let k = laid j in
       first-among (also (if-never ks k 1 0 _ (lengths-same j))
       (also (if-never ks k 2 0 _ (few-enough j r))
-      (also (at-among ks k 3 _ (hit ks 3 tt))
-      (also (at-among ks k 3 _ (hit ks 3 tt))
-      (also (at-among ks k 4 _ (hit ks 4 tt))
-      (also (at-among ks k 4 _ (hit ks 4 tt))
+      (also (at-among ks k 3 _ three)
+      (also (at-among ks k 3 _ three)
+      (also (at-among ks k 4 _ four)
+      (also (at-among ks k 4 _ four)
       (also (at-never ks k 5 _ (names-inside j)) (also (if-never ks k 5 64 _ (sheet-inside j)) done))))))))
 
   short-among : Among jobNumbers (spaceShort (laid j) wholeSpace)
@@ -233,7 +233,7 @@ module _ (j : JobText) (r : Readable j) where
   pub numbers-of-jobs : OneOf jobNumbers (decided (ReadResult.is j) .summary .number)
   unfolding decided result
   numbers-of-jobs =
-      else-among jobNumbers (malformed (laid j)) _ malformed-among
+      else-among jobNumbers (malformed (laid j)) _ (malformed-among jobNumbers (hit jobNumbers 3 tt) (hit jobNumbers 4 tt))
       (else-among jobNumbers (spaceShort (laid j) wholeSpace) _ short-among
       (limited-among (j .limit) (laid j .start) (markSpace wholeSpace) (runOf (laid j))))
 

@@ -1,6 +1,6 @@
 /* Shows that the calls need the floating-point state in which a C program starts on x86-64 Linux: rounding to nearest, subnormal numbers
- * kept. Each line has a result in that state and in another one; a result that is not the expected one is told. Status: 0 all as expected,
- * 1 one differs, 2 a fault.
+ * kept; and that a job is saved as the same text in another one too. Each line has a result in that state and in another one; a result that
+ * is not the expected one is told. Status: 0 all as expected, 1 one differs, 2 a fault.
  */
 #include <limits.h>
 #include <stddef.h>
@@ -19,6 +19,8 @@
 #define ROUNDING 0x6000u
 #define FLUSH_TO_ZERO 0x8000u
 #define OWED (ROUNDING | FLUSH_TO_ZERO | DENORMALS_ARE_ZERO) /* all 0 in the state that the caller owes */
+
+#define EVERY_OTHER (ROUND_UPWARD | FLUSH_TO_ZERO | DENORMALS_ARE_ZERO)
 
 #define LEAST 0x1p-1074 /* the least positive number, subnormal */
 
@@ -50,6 +52,18 @@ static const char job[] =
     "2 0\n"
     "top left bottom right priority stop imported rule p1 p2 p3 p4\n"
     "0 0 2 0 - 0 0 bar 00ff00 - - -\n";
+
+/* Numbers whose bits another state could change: subnormal, -0, signalling NaN. */
+static const char saved_job[] =
+    "limit start cells regions rules name\n"
+    "100 0 3 0 1 t53\n"
+    "row col wraps value\n"
+    "0 0 0 n0000000000000001\n"
+    "1 0 0 n8000000000000000\n"
+    "2 0 0 d7ff0000000000001\n"
+    "row col\n"
+    "top left bottom right priority stop imported rule p1 p2 p3 p4\n"
+    "0 0 2 0 - 0 0 cellis 0 n0000000000000001 n800fffffffffffff ff0000\n";
 
 static int differ;
 
@@ -83,6 +97,16 @@ static unsigned long bar_in(unsigned int bits)
     return at == NULL ? ULONG_MAX : strtoul(at + strlen(line), NULL, 10);
 }
 
+/* 1 if the job is saved as the same text. */
+static unsigned long saved_in(unsigned int bits)
+{
+    static uint8_t saved[sizeof saved_job];
+    const unsigned int before = enter(bits);
+    const size_t length = wavendiru_save_job((const uint8_t *)saved_job, sizeof saved_job - 1, saved, sizeof saved);
+    _mm_setcsr(before);
+    return length == sizeof saved_job - 1 && memcmp(saved, saved_job, sizeof saved_job) == 0;
+}
+
 static void compare(const char *call, const char *state, unsigned long got, unsigned long expected)
 {
     if (got == expected)
@@ -110,10 +134,11 @@ int main(void)
         tell(c->call, c->state, ratio_in(0, c), ratio_in(c->bits, c), c->expected, c->otherwise);
     }
     tell("a whole job, the bar of 41 over 0, 41, 640", "rounding upward", bar_in(0), bar_in(ROUND_UPWARD), 64062, 64063);
+    tell("a job saved as the same text", "all three", saved_in(0), saved_in(EVERY_OTHER), 1, 1);
     if (_mm_getcsr() & OWED) {
         printf("env: the state was not restored\n");
         return 2;
     }
-    printf("env: 8 results, %d differ\n", differ);
+    printf("env: 10 results, %d differ\n", differ);
     return differ != 0;
 }

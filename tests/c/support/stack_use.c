@@ -1,4 +1,4 @@
-/* Measures the stack that wavendiru_whole_job takes on each job that is named, in two ways:
+/* Measures the stack that wavendiru_whole_job and wavendiru_save_job take on each job that is named, in two ways:
  *   written   the stack is filled with a pattern, and the bytes that the call did not write are left
  *   needed    the call is made on smaller and smaller stacks, down to the least on which it returns; below each lies memory that cannot be
  *             touched
@@ -25,10 +25,17 @@
 
 static uint8_t text[WAVENDIRU_MAX_TEXT + 1];
 static size_t text_len;
-static uint8_t report[WAVENDIRU_LONGEST_REPORT];
+static uint8_t lent[WAVENDIRU_MAX_TEXT];  /* the longest report too has room here */
 static uint8_t *stack;  /* its lowest byte; ROOM bytes below it cannot be touched */
 static size_t stack_size;
 static ucontext_t here, there;
+
+/* The calls that are measured on each job. */
+enum { WHOLE, SAVE, SAVE_SHORT, CALLS };
+static const char *const call_names[CALLS] = {"whole job", "save", "save into a byte too few"};
+static int chosen;
+static size_t most[CALLS];
+static const char *most_by[CALLS] = {"no job", "no job", "no job"};
 
 /* What a call comes to, shared with the process that makes it. */
 struct found {
@@ -44,7 +51,10 @@ static void fault(const char *what)
 
 static void make_the_call(void)
 {
-    found->length = wavendiru_whole_job(text, text_len, report, sizeof report);
+    if (chosen == WHOLE)
+        found->length = wavendiru_whole_job(text, text_len, lent, WAVENDIRU_LONGEST_REPORT);
+    else
+        found->length = wavendiru_save_job(text, text_len, lent, chosen == SAVE ? sizeof lent : text_len - 1);
 }
 
 /* Goes over to the stack, makes the call there, and comes back. Apart, since getcontext may return twice. */
@@ -133,6 +143,7 @@ static void *room(size_t size, int protection, int sharing)
     return made;
 }
 
+/* A job of at least one byte, so that there are a byte too few of them. */
 static void read_job(const char *name)
 {
     FILE *in = fopen(name, "rb");
@@ -142,34 +153,52 @@ static void read_job(const char *name)
     if (ferror(in))
         fault(name);
     fclose(in);
+    errno = EINVAL;
+    if (text_len == 0)
+        fault(name);
+}
+
+/* Measures the chosen call on a job. */
+static void measure(const char *name)
+{
+    const size_t wrote = written(), least = needed();
+    printf("%s, %s: text %zu, written %zu: writes %zu bytes, returns on %zu, dies on %zu\n", name, call_names[chosen], text_len,
+           found->length, wrote, least, least - STEP);
+    if (wrote > least) {
+        printf("stack_use: it writes more than it needs: the measurement is wrong\n");
+        exit(1);
+    }
+    if (least > most[chosen]) {
+        most[chosen] = least;
+        most_by[chosen] = name;
+    }
+}
+
+/* Prints the most that each call needs, and the most of all. */
+static int tell(void)
+{
+    int top = WHOLE;
+    for (int i = 0; i < CALLS; i++) {
+        printf("%s: %zu bytes (%s)\n", call_names[i], most[i], most_by[i]);
+        if (most[i] > most[top])
+            top = i;
+    }
+    if (most[top] > WAVENDIRU_STACK)
+        printf("stack_use: WAVENDIRU_STACK of the header is too small\n");
+    printf("most: %zu bytes (%s); WAVENDIRU_STACK: %d\n", most[top], most_by[top], WAVENDIRU_STACK);
+    return most[top] == 0 || most[top] > WAVENDIRU_STACK;
 }
 
 int main(int argc, char **argv)
 {
-    size_t most = 0;
-    const char *by = "no job";
     found = room(sizeof *found, PROT_READ | PROT_WRITE, MAP_SHARED);
     stack = (uint8_t *)room(2 * ROOM, PROT_NONE, MAP_PRIVATE) + ROOM;
     if (mprotect(stack, ROOM, PROT_READ | PROT_WRITE) != 0)
         fault("mprotect");
     for (int i = 1; i < argc; i++) {
-        size_t wrote, least;
         read_job(argv[i]);
-        wrote = written();
-        least = needed();
-        printf("%s: text %zu, report %zu: writes %zu bytes, returns on %zu, dies on %zu\n", argv[i], text_len, found->length, wrote, least,
-               least - STEP);
-        if (wrote > least) {
-            printf("stack_use: it writes more than it needs: the measurement is wrong\n");
-            return 1;
-        }
-        if (least > most) {
-            most = least;
-            by = argv[i];
-        }
+        for (chosen = 0; chosen < CALLS; chosen++)
+            measure(argv[i]);
     }
-    if (most > WAVENDIRU_STACK)
-        printf("stack_use: WAVENDIRU_STACK of the header is too small\n");
-    printf("most: %zu bytes (%s); WAVENDIRU_STACK: %d\n", most, by, WAVENDIRU_STACK);
-    return most == 0 || most > WAVENDIRU_STACK;
+    return tell();
 }

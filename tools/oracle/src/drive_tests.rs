@@ -1,9 +1,8 @@
 //! The driver has to notice each thing that a wrong library might do. The calls here wrap the oracle and then go wrong.
 
-use crate::drive::{Found, Run};
-use crate::guarded::{Fault, WholeJob};
+use crate::drive::{Due, Found, Run};
+use crate::guarded::{Fault, TextCall};
 use crate::report::report;
-use crate::tour::Tour;
 
 /// A call that does all that it should.
 unsafe extern "C" fn right(text: *const u8, text_len: usize, lent: *mut u8, space: usize) -> usize {
@@ -60,8 +59,8 @@ unsafe extern "C" fn cuts_a_long_report(text: *const u8, text_len: usize, lent: 
     length
 }
 
-fn found(whole_job: WholeJob) -> Option<Box<Found>> {
-    Run::new(7, 0, 2_000).first_mismatch(whole_job, &mut Tour::default(), &mut |_| ())
+fn found(whole_job: TextCall) -> Option<Box<Found>> {
+    Run { seed: 7, from: 0, to: 2_000 }.first_mismatch(whole_job, &mut |_, text| Due::report(report(text)), &mut |_| ())
 }
 
 #[test]

@@ -1,11 +1,11 @@
-//! One call of the whole job over lent memory that was filled with garbage, between guard bytes that are looked at after the call.
+//! One call of the whole job, or of saving, over lent memory that was filled with garbage, between guard bytes that are looked at after it.
 
 use std::fmt;
 
 use crate::rng::Rng;
 
-/// `wavendiru_whole_job` of the header.
-pub type WholeJob = unsafe extern "C" fn(text: *const u8, text_len: usize, report: *mut u8, report_len: usize) -> usize;
+/// `wavendiru_whole_job` and `wavendiru_save_job` of the header.
+pub type TextCall = unsafe extern "C" fn(text: *const u8, text_len: usize, lent: *mut u8, lent_len: usize) -> usize;
 
 /// What a call did that no call may do.
 #[derive(Debug, Clone, PartialEq, Eq)]
@@ -20,9 +20,9 @@ impl fmt::Display for Fault {
     fn fmt(&self, f: &mut fmt::Formatter) -> fmt::Result {
         match self {
             Fault::TextWritten => write!(f, "the job text or a byte beside it was written"),
-            Fault::GuardWritten => write!(f, "a byte beside the lent report was written"),
+            Fault::GuardWritten => write!(f, "a byte beside the lent bytes was written"),
             Fault::LongerThanLent(length) => write!(f, "{length} bytes were said to be written, more than were lent"),
-            Fault::NotZeroPast(at) => write!(f, "byte {at}, past the report, is not 0"),
+            Fault::NotZeroPast(at) => write!(f, "byte {at}, past what was said to be written, is not 0"),
         }
     }
 }
@@ -57,12 +57,12 @@ impl Lent {
     }
 }
 
-/// The report that a call writes into `space` lent bytes; empty if it answers 0.
-pub fn call(whole_job: WholeJob, text: &[u8], space: usize, rng: &mut Rng) -> Result<Vec<u8>, Fault> {
+/// What a call writes into `space` lent bytes; empty if it answers 0.
+pub fn call(text_call: TextCall, text: &[u8], space: usize, rng: &mut Rng) -> Result<Vec<u8>, Fault> {
     let source = Lent::new(rng, text);
     let mut lent = Lent::garbage(rng, space);
     // Both pointers lie inside their vectors, with the lengths that the call is told.
-    let length = unsafe { whole_job(source.bytes.as_ptr().add(GUARD), text.len(), lent.bytes.as_mut_ptr().add(GUARD), space) };
+    let length = unsafe { text_call(source.bytes.as_ptr().add(GUARD), text.len(), lent.bytes.as_mut_ptr().add(GUARD), space) };
     if source.inner() != text || !source.guards_hold() {
         return Err(Fault::TextWritten);
     }

@@ -44,6 +44,9 @@ pub mod read_fields;
 pub mod read_rules;
 pub mod report;
 pub mod rng;
+pub mod saves;
+#[cfg(test)]
+mod saves_tests;
 pub mod sha256;
 pub mod shrink;
 pub mod stored;

@@ -1,49 +1,22 @@
--- `checks::check` meets its contract: each check is the definition's, and one after another they refuse as the definition does.
--- Nothing is asked where it calls. Assumes nothing.
-use mathlib.Core.Path.{sym, _∙_}
-use Rattle.model.specs.Answer.{summary}
-use Rattle.model.specs.Job.{badCellAt, rulesOf, lengthsDiffer, tooMany, refuseIf, spaceShort}
-use Rattle.checks.proofs.Refusing.{first-one, first-also, refused-if, refused-at, checksOf, refusal-first}
+-- `checks::check` meets its contract: the checks 1 to 5, then the check of the space. Nothing is asked where it calls. Assumes nothing.
+use mathlib.Core.Path.{ap₂, _∙_}
+use mathlib.Core.List.{[], _∷_}
+use mathlib.Core.Option.{Option}
+use Rattle.model.specs.Answer.{Summary, summary}
+use Rattle.model.specs.Job.{refuseIf, firstOf, spaceShort}
+use Rattle.checks.specs.Checked.{refusalOf}
+use Rattle.checks.proofs.Refusing.{refused-if}
 use Rattle.checks.proofs.check.Statement.{statement}
 use Rattle.checks.proofs.check.Tie as tie
 
 returns : tie.Need-returns
-unfolding summary checksOf refuseIf lengthsDiffer tooMany spaceShort rulesOf badCellAt
+unfolding summary refuseIf spaceShort refusalOf
 returns c =
-    let o = c .before .before .before .before .before .before .before in
-    let space = o .before in
-    let sheet = space .before .before in
-    let references = sheet .before in
-    let region-order = references .before .before in
-    let cell-order = region-order .before .before in
-    let regions = cell-order .before .before in
-    let cells = regions .before .before in
-    let counts = cells .before .before in
-    let lengths = counts .before .before in
-    first-also _ (c .or8 .ensures)
-    (first-also _ (c .before .or7 .ensures)
-    (first-also _ (c .before .before .or6 .ensures)
-    (first-also _ (c .before .before .before .or5 .ensures)
-    (first-also _ (c .before .before .before .before .or4 .ensures)
-    (first-also _ (c .before .before .before .before .before .or3 .ensures)
-    (first-also _ (c .before .before .before .before .before .before .or2 .ensures)
-    (first-also _ (o .or .ensures)
-    (refused-if _ (lengths .refuse-if .ensures) (lengths .before .lengths-differ .ensures) ∙ sym (first-one _))
-    (refused-if _ (counts .refuse-if2 .ensures) (counts .before .too-many .ensures)))
-    (refused-at _ 3 _ (cells .out-of-bounds .ensures) (cells .before .first-bad-cell .ensures)))
-    (refused-at _ 3 _ (regions .out-of-bounds2 .ensures) (regions .before .first-bad-region .ensures)))
-    (refused-at _ 4 _ (cell-order .not-rising .ensures) (cell-order .before .first-fall .ensures)))
-    (refused-at _ 4 _ (region-order .not-rising2 .ensures) (region-order .before .first-fall2 .ensures)))
-    (refused-at _ 5 _ (references .name-outside .ensures) (references .before .first-bad-rule .ensures)))
-    (sheet .check-sheet-name .ensures))
-    (refused-if _ (space .refuse-if3 .ensures) (space .before .space-short .ensures))
-    ∙ refusal-first _ _
+    let space = c .before in
+    let form = space .before .before in
+    c .or .ensures
+    ∙ ap₂ (λ (a b : Option Summary). firstOf (a ∷ b ∷ [])) (form .malformed .ensures)
+    (refused-if _ (space .refuse-if .ensures) (space .before .space-short .ensures))
 
 pub check-spec : {M : Type 1} → statement M
-check-spec =
-    tie.close
-    (tie.spec
-    (λ _ _. tt) (λ _ _. tt) (λ _ _. tt) (λ _ _. tt) (λ _ _. tt) (λ _ _. tt) (λ _ _. tt) (λ _ _. tt) (λ _ _. tt)
-    (λ _ _. tt) (λ _ _. tt) (λ _ _. tt) (λ _ _. tt) (λ _ _. tt) (λ _ _. tt) (λ _ _. tt) (λ _ _. tt) (λ _ _. tt)
-    (λ _ _. tt) (λ _ _. tt) (λ _ _. tt) (λ _ _. tt) (λ _ _. tt) (λ _ _. tt) (λ _ _. tt)
-    returns)
+check-spec = tie.close (tie.spec (λ _ _. tt) (λ _ _. tt) (λ _ _. tt) (λ _ _. tt) returns)

@@ -17,21 +17,24 @@ same-length : tie.Need-same-length
 same-length c = search needs
 
 returns : tie.Need-returns
-returns c = laid-fits (omega arith) refl (omega arith)
+returns c = laid-fits (omega arith) (omega arith) refl (omega arith)
 
 clear-from-requires : tie.Need-clear-from-requires
 clear-from-requires c κs = search needs
+
+place-after-requires : tie.Need-place-after-requires
+place-after-requires c κs = search needs
 
 same-length-2 : tie.Need-same-length-2
 same-length-2 c = search needs
 
 returns-2 : tie.Need-returns-2
 returns-2 c =
-    let clear = c .before .before in
+    let clear = c .before .before .before in
     let start = clear .before .before .before .before in
-    laid-over (omega arith) (clear .clear-from .ensures ∙ none-kept (start .args .text .now)) refl
+    laid-over (omega arith) (clear .clear-from .ensures ∙ none-kept (start .args .text .now)) (c .place-after .ensures)
 
 pub put-byte-spec : {M : Type 1} → statement M
 put-byte-spec =
     tie.close
-    (tie.spec slice-write-text add-result same-length returns clear-from-requires same-length-2 returns-2)
+    (tie.spec slice-write-text add-result same-length returns clear-from-requires place-after-requires same-length-2 returns-2)

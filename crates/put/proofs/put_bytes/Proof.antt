@@ -2,7 +2,7 @@
 -- the bytes that are left, the text holds the piece. The measure is how many bytes are left. Assumes nothing.
 use Prim.Native.Nat.{_-_}
 use native.Mathlib.Omega.{arith}
-use mathlib.Core.Path.{refl, sym, _∙_}
+use mathlib.Core.Path.{sym, _∙_}
 use lib.ListN.{length}
 use borrow.Author.Needs.{needs}
 use borrow.Author.Tests.{leb-true, leb-false, not-true, not-false}
@@ -24,16 +24,19 @@ has-room-requires c κs = search needs
 clear-from-requires : tie.Need-clear-from-requires Inv-loop μ-loop
 clear-from-requires c κs = search needs
 
+place-after-requires : tie.Need-place-after-requires Inv-loop μ-loop
+place-after-requires c κs = search needs
+
 same-length : tie.Need-same-length Inv-loop μ-loop
 same-length c = search needs
 
 returns : tie.Need-returns Inv-loop μ-loop
 returns c =
-    let clear = c .before .before in
+    let clear = c .before .before .before in
     let room = clear .before .before .before in
     let start = room .before .before .before in
     laid-over (leb-false _ _ (sym (room .has-room .ensures) ∙ not-true _ (clear .before .before .if1 .taken)))
-    (clear .clear-from .ensures ∙ none-kept (start .args .text .now)) refl
+    (clear .clear-from .ensures ∙ none-kept (start .args .text .now)) (c .place-after .ensures)
 
 loop-holds : tie.Need-loop-holds Inv-loop μ-loop
 loop-holds c = storing-begun (leb-true _ _ (sym (c .before .has-room .ensures) ∙ not-false _ (c .if1 .left)))
@@ -65,7 +68,7 @@ same-length-2 c = c .before .loop .inv .long
 returns-2 : tie.Need-returns-2 Inv-loop μ-loop
 returns-2 c =
     let stored = c .before .loop .inv in
-    laid-fits (stored .room) (storing-done stored (c .loop-test .left)) (omega arith)
+    laid-fits (omega arith) (stored .room) (storing-done stored (c .loop-test .left)) (omega arith)
 
 pub put-bytes-spec : {M : Type 1} → statement M
 put-bytes-spec =
@@ -75,6 +78,7 @@ put-bytes-spec =
     μ-loop
     has-room-requires
     clear-from-requires
+    place-after-requires
     same-length
     returns
     loop-holds

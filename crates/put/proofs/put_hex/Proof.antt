@@ -1,8 +1,8 @@
 -- `put::put_hex` meets its contract: there is no room and all is cleared, or the digits are stored, the last one first. The loop's
 -- invariant: with the digits that are left, the text holds all of them. The measure is how many are left. Assumes nothing.
-use Prim.Native.Nat.{_+_, _-_}
+use Prim.Native.Nat.{_+_}
 use native.Mathlib.Omega.{arith}
-use mathlib.Core.Path.{refl, sym, _∙_}
+use mathlib.Core.Path.{sym, _∙_}
 use lib.ListN.{length}
 use borrow.Author.Needs.{needs}
 use borrow.Author.Tests.{leb-true, leb-false, not-true, not-false}
@@ -25,18 +25,21 @@ has-room-requires c κs = search needs
 clear-from-requires : tie.Need-clear-from-requires Inv-loop μ-loop
 clear-from-requires c κs = search needs
 
+place-after-requires : tie.Need-place-after-requires Inv-loop μ-loop
+place-after-requires c κs = search needs
+
 same-length : tie.Need-same-length Inv-loop μ-loop
 same-length c = search needs
 
 returns : tie.Need-returns Inv-loop μ-loop
 returns c =
-    let clear = c .before .before in
+    let clear = c .before .before .before in
     let room = clear .before .before .before in
     let start = room .before .before in
     let over = leb-false (start .args .at + start .args .k) (length (start .args .text .now))
     (sym (room .has-room .ensures) ∙ not-true _ (clear .before .before .if1 .taken)) in
-    laid-over (omega (arith, length-digits (start .args .k) (start .args .n)))
-    (clear .clear-from .ensures ∙ none-kept (start .args .text .now)) refl
+    let long = length-digits (start .args .k) (start .args .n) in
+    laid-over (omega arith) (clear .clear-from .ensures ∙ none-kept (start .args .text .now)) (rw long (c .place-after .ensures))
 
 loop-holds : tie.Need-loop-holds Inv-loop μ-loop
 loop-holds c = digits-begun (leb-true _ _ (sym (c .before .has-room .ensures) ∙ not-false _ (c .if1 .left)))
@@ -70,7 +73,7 @@ returns-2 : tie.Need-returns-2 Inv-loop μ-loop
 returns-2 c =
     let start = c .before .before .before .before .before in
     let long = length-digits (start .args .k) (start .args .n) in
-    laid-fits (omega (arith, long)) (digits-done (c .before .loop .inv) (omega arith)) (omega (arith, long))
+    laid-fits (omega arith) (omega (arith, long)) (digits-done (c .before .loop .inv) (omega arith)) (omega (arith, long))
 
 pub put-hex-spec : {M : Type 1} → statement M
 put-hex-spec =
@@ -80,6 +83,7 @@ put-hex-spec =
     μ-loop
     has-room-requires
     clear-from-requires
+    place-after-requires
     same-length
     returns
     loop-holds

@@ -6,7 +6,7 @@ use lib.ListN.{length}
 use borrow.Author.Needs.{needs}
 use Rattle.grammar.specs.Parts.{bytes}
 use Rattle.put.specs.Put.{last}
-use Rattle.put.proofs.Laws.{laid-then, laid-as, laid-length, laid-ready}
+use Rattle.put.proofs.Laws.{stops-of-laid, stops-then, stops-as, stops-length, laid-ready}
 use Rattle.reporttext.specs.Report.{markNames, barNames, marksText, barsText}
 use Rattle.report.proofs.put_answer.Statement.{statement}
 use Rattle.report.proofs.put_answer.Tie as tie
@@ -35,9 +35,7 @@ put-bar-lines-requires c κs =
     let marks = barNames .before .before .before .before .before in
     let markNames = marks .before .before .before .before in
     let start = markNames .before .before .before .before .before .before .before .before .before .before .before in
-    let room : length (start .args .text .now) < last = omega (arith, start .good .0) in
-    let lines = laid-then room (markNames .put-bytes .ensures) (marks .put-mark-lines .ensures) in
-    laid-ready (laid-then room lines (barNames .put-bytes2 .ensures)) room
+    laid-ready (barNames .put-bytes2 .ensures) (omega (arith, start .good .0))
 
 returns : tie.Need-returns
 unfolding bytes markNames barNames marksText barsText
@@ -48,14 +46,12 @@ returns c =
     let markNames = marks .before .before .before .before in
     let start = markNames .before .before .before .before .before .before .before .before .before .before .before in
     let room : length (start .args .text .now) < last = omega (arith, start .good .0) in
-    laid-as (
-    laid-then room (
-    laid-then room (laid-then room (markNames .put-bytes .ensures) (marks .put-mark-lines .ensures)) (barNames .put-bytes2 .ensures))
-    (bars .put-bar-lines .ensures))
-    (simp append-assoc)
+    let lines = stops-then (stops-of-laid room (markNames .put-bytes .ensures)) (marks .put-mark-lines .ensures) in
+    let names = stops-of-laid (omega (arith, stops-length lines)) (barNames .put-bytes2 .ensures) in
+    stops-as (stops-then (stops-then lines names) (bars .put-bar-lines .ensures)) (simp append-assoc)
 
 same-length : tie.Need-same-length
-same-length c = laid-length (returns c)
+same-length c = stops-length (returns c)
 
 pub put-answer-spec : {M : Type 1} → statement M
 put-answer-spec =

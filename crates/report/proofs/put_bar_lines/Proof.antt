@@ -5,7 +5,7 @@ use native.Mathlib.Omega.{arith}
 use mathlib.Core.Path.{sym, _∙_}
 use lib.ListN.{length}
 use borrow.Author.Needs.{needs}
-use Rattle.put.proofs.Laws.{LaidLeft, left-begun, left-length, left-done, left-stopped, laid-as, laid-length}
+use Rattle.put.proofs.Laws.{LaidLeft, left-begun, left-length, left-done, left-stopped, laid-as, laid-length, stops-of-laid, stops-as}
 use Rattle.report.proofs.Lines.{barsFrom, bars-all, bars-more, bars-none}
 use Rattle.report.proofs.put_bar_lines.Statement.{statement}
 use Rattle.report.proofs.put_bar_lines.Tie as tie
@@ -43,7 +43,7 @@ returns c =
     let turn = put .before .before .before .before .before in
     let start = turn .before .before .before .before in
     let args = start .args in
-    laid-as (
+    stops-as (
     left-stopped (omega (arith, start .good .0)) (
     bars-more (args .rules .now) (args .ppms .now) (length (args .rules .now)) (turn .loop .i) (omega (arith, start .good .0)) (omega arith)
     (turn .loop .inv) (laid-as (put .put-bar .ensures) (rw (put .before .at-u32 .ensures))))
@@ -70,11 +70,12 @@ same-length-2 c = left-length (c .before .loop .inv)
 
 returns-2 : tie.Need-returns-2 Inv-loop μ-loop
 returns-2 c =
-    let args = c .before .before .before .before .before in
-    laid-as (
-    left-done (c .before .loop .inv)
-    (bars-none (args .args .rules .now) (args .args .ppms .now) (length (args .args .rules .now)) (c .before .loop .i) (omega arith)))
-    (sym (bars-all (args .args .rules .now) (args .args .ppms .now) (length (args .args .rules .now))))
+    let start = c .before .before .before .before .before in
+    let args = start .args in
+    let all = left-done (c .before .loop .inv)
+    (bars-none (args .rules .now) (args .ppms .now) (length (args .rules .now)) (c .before .loop .i) (omega arith)) in
+    stops-as (stops-of-laid (omega (arith, start .good .0)) all)
+    (sym (bars-all (args .rules .now) (args .ppms .now) (length (args .rules .now))))
 
 pub put-bar-lines-spec : {M : Type 1} → statement M
 put-bar-lines-spec =

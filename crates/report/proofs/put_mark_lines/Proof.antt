@@ -4,7 +4,7 @@ use Prim.Native.Nat.{_-_}
 use native.Mathlib.Omega.{arith}
 use mathlib.Core.Path.{sym, _∙_}
 use borrow.Author.Needs.{needs}
-use Rattle.put.proofs.Laws.{LaidLeft, left-begun, left-length, left-done, left-stopped, laid-as, laid-length}
+use Rattle.put.proofs.Laws.{LaidLeft, left-begun, left-length, left-done, left-stopped, laid-length, stops-of-laid, stops-as}
 use Rattle.report.proofs.Lines.{marksFrom, marks-all, marks-more, marks-none}
 use Rattle.report.proofs.put_mark_lines.Statement.{statement}
 use Rattle.report.proofs.put_mark_lines.Tie as tie
@@ -33,7 +33,7 @@ returns c =
     let turn = put .before .before in
     let start = turn .before .before .before .before .before .before .before .before in
     let args = start .args in
-    laid-as (
+    stops-as (
     left-stopped (omega (arith, start .good .0)) (
     marks-more (args .regions .now) (args .rules .now) (args .kinds .now) (args .colours .now) (args .ppms .now) (args .n)
     (turn .before .loop .i) (omega (arith, start .good .0)) (turn .loop-test .taken) (turn .before .loop .inv) (put .put-mark-at .ensures))
@@ -60,14 +60,13 @@ same-length-2 c = left-length (c .before .loop .inv)
 
 returns-2 : tie.Need-returns-2 Inv-loop μ-loop
 returns-2 c =
-    let args = c .before .before .before .before .before .before .before .before .args in
-    laid-as (
-    left-done (c .before .loop .inv)
-    (marks-none (args .regions .now) (args .rules .now) (args .kinds .now) (args .colours .now) (args .ppms .now)
-    (args .n) (c .before .loop .i) (omega arith)))
-    (sym (
-    marks-all (args .regions .now) (args .rules .now) (args .kinds .now) (args .colours .now) (args .ppms .now)
-    (args .n)))
+    let start = c .before .before .before .before .before .before .before .before in
+    let args = start .args in
+    let all = left-done (c .before .loop .inv)
+    (marks-none (args .regions .now) (args .rules .now) (args .kinds .now) (args .colours .now) (args .ppms .now) (args .n)
+    (c .before .loop .i) (omega arith)) in
+    stops-as (stops-of-laid (omega (arith, start .good .0)) all)
+    (sym (marks-all (args .regions .now) (args .rules .now) (args .kinds .now) (args .colours .now) (args .ppms .now) (args .n)))
 
 pub put-mark-lines-spec : {M : Type 1} → statement M
 put-mark-lines-spec =

@@ -4,7 +4,7 @@ use mathlib.Core.Path.{sym, ap}
 use mathlib.Core.Bool.{not}
 use borrow.Author.Needs.{needs}
 use borrow.Author.Tests.{eq-eqb, ne-eqb}
-use Rattle.put.proofs.Laws.{laid-as}
+use Rattle.put.proofs.Laws.{laid-as, stops-of-laid}
 use Rattle.put.proofs.Keeping.{kept-page}
 use Rattle.reporttext.specs.Report.{summaryText}
 use Rattle.report.proofs.Printing.{printed-page, printed-none}
@@ -43,7 +43,8 @@ returns-2 c =
     let put = kept .before .before .before .before in
     let start = put .before .before .before .before .before in
     let laid = laid-as (put .put-summary .ensures) (ap summaryText (sym (put .before .refusal-figures .ensures))) in
-    let page = kept-page (omega (arith, start .good .1 .1 .1 .1 .0)) laid (kept .keep2 .ensures .0) (kept .keep2 .ensures .1) in
+    let page = kept-page (stops-of-laid (omega (arith, start .good .1 .1 .1 .1 .0)) laid) (kept .keep2 .ensures .0)
+    (kept .keep2 .ensures .1) in
     let all = printed-page (ap not (ne-eqb _ _ (put .before .before .before .if1 .left))) page in
     (all .length, all .bytes)
 

@@ -7,7 +7,7 @@ use lib.ListN.{length}
 use borrow.Author.Needs.{needs}
 use Rattle.model.specs.Answer.{Summary}
 use Rattle.put.specs.Put.{last}
-use Rattle.put.proofs.Laws.{laid-then, laid-as}
+use Rattle.put.proofs.Laws.{laid-as, stops-of-laid, stops-then, stops-as}
 use Rattle.put.proofs.Keeping.{kept-page}
 use Rattle.reporttext.specs.Report.{reportOf}
 use Rattle.reporttext.specs.Shown.{printed, resultIn}
@@ -51,7 +51,7 @@ returns-2 c =
     ap (λ (s : Summary). reportOf (resultIn s columns)) (sym (figures .ensures))
     ∙ report-refused (resultIn (summaryOf (figures .result)) columns) (kept .before .before .if2 .taken)) in
     let page = printed-page (all-held columns (figures .ensures) (space .mark-space .ensures) (holds .if1 .left))
-    (kept-page room laid (kept .keep2 .ensures .0) (kept .keep2 .ensures .1)) in
+    (kept-page (stops-of-laid room laid) (kept .keep2 .ensures .0) (kept .keep2 .ensures .1)) in
     (page .length, page .bytes)
 
 same-length-3 : tie.Need-same-length-3
@@ -70,11 +70,11 @@ returns-3 c =
     let columns = printed (start .args .regions .now) (start .args .rules .now) (start .args .kinds .now) (start .args .colours .now)
     (start .args .ppms .now) (start .args .barrules .now) (start .args .barppms .now) in
     let room : length (start .args .report .now) < last = omega (arith, start .good .1 .1 .1 .1 .1 .1 .1 .1 .0) in
-    let laid = laid-as (laid-then room (put .put-summary .ensures) (rest .put-answer .ensures)) (
+    let laid = stops-as (stops-then (stops-of-laid room (put .put-summary .ensures)) (rest .put-answer .ensures)) (
     ap (λ (s : Summary). reportOf (resultIn s columns)) (sym (figures .ensures))
     ∙ report-answered (resultIn (summaryOf (figures .result)) columns) (rest .before .before .if2 .left)) in
     let page = printed-page (all-held columns (figures .ensures) (space .mark-space .ensures) (holds .if1 .left))
-    (kept-page room laid (kept .keep3 .ensures .0) (kept .keep3 .ensures .1)) in
+    (kept-page laid (kept .keep3 .ensures .0) (kept .keep3 .ensures .1)) in
     (page .length, page .bytes)
 
 -- nothing is asked where it calls

@@ -7,7 +7,8 @@ use borrow.Author.Tests.{ne-eqb}
 use Rattle.memory.specs.Memory.{page, pageLength}
 use Rattle.reporttext.specs.Report.{reportOf}
 use Rattle.report.proofs.Printing.{printed-all}
-use Rattle.whole.proofs.Reports.{refused-report, job-read, inside, part-long}
+use Rattle.readlaws.proofs.Fronts.{job-read, inside, part-long}
+use Rattle.whole.proofs.Reports.{refused-report, decides-read}
 use Rattle.whole.proofs.whole_job.Statement.{statement}
 use Rattle.whole.proofs.whole_job.Tie as tie
 
@@ -167,7 +168,7 @@ returns-2 c =
     let decided = c .before .before .decide-job in
     let at = c .before .before .before .before .before .before .before .before .before .before .before .before .before .before in
     let job = at .before .before .before .before .before .before .before .before .before .before .before .before .read-job in
-    let same = ap reportOf (job-read _ (job .ensures .0) (at .if1 .left) (job .ensures .1) .decides) in
+    let same = ap reportOf (decides-read _ (job .ensures .0) (at .if1 .left) (job .ensures .1)) in
     (decided .ensures .0 ∙ ap (pageLength _) same, decided .ensures .1 ∙ ap (page _) same)
 
 -- nothing is asked where it calls

@@ -1,6 +1,6 @@
 //! Texts of rising length, and jobs with reports of rising length.
 
-use super::{at, divided, plain_rule, refused_by_check, sheet, RED};
+use super::{at, between, divided, plain_rule, refused_by_check, sheet, RED};
 use crate::job::{CellAt, Job, Kind, Operand, Range, Reference, Rule, Value, MAX_TEXT};
 use crate::write::job_text;
 
@@ -8,9 +8,9 @@ use crate::write::job_text;
 pub const SHARES: [usize; 3] = [4, 2, 1];
 
 /// Fills the text of a job up to so many bytes, or one less: `with` makes the job from the bytes of all its names or texts.
-fn filled(bytes: usize, with: impl Fn(usize) -> Job) -> Vec<u8> {
+fn filled(bytes: usize, with: impl Fn(usize) -> Job) -> Job {
     let empty = job_text(&with(0)).len();
-    job_text(&with((bytes - empty) / 2))
+    with((bytes - empty) / 2)
 }
 
 /// Part `index` when `bytes` are dealt out evenly.
@@ -19,37 +19,58 @@ fn dealt(bytes: usize, index: usize, parts: usize) -> Vec<u8> {
 }
 
 fn two_regions(cells: Vec<CellAt>, rules: Vec<Rule>) -> Job {
-    refused_by_check(&Job { limit: 0, start: 0, name: b"S".to_vec(), cells, regions: vec![at(0), at(1)], rules })
+    Job { limit: 0, start: 0, name: b"S".to_vec(), cells, regions: vec![at(0), at(1)], rules }
 }
 
-/// 64 cells with texts.
-pub fn texts(share: usize) -> Vec<u8> {
-    let cell = |index: usize, bytes: usize| CellAt { row: index as u32, col: 0, wraps: 0, value: Value::Text(dealt(bytes, index, 64)) };
-    filled(MAX_TEXT / share, |bytes| two_regions((0..64).map(|index| cell(index, bytes)).collect(), Vec::new()))
+/// So many bytes, of cells with texts.
+pub fn text_cells(bytes: usize, count: usize) -> Job {
+    let cell = |index: usize, bytes: usize| CellAt { row: index as u32, col: 0, wraps: 0, value: Value::Text(dealt(bytes, index, count)) };
+    filled(bytes, |bytes| two_regions((0..count).map(|index| cell(index, bytes)).collect(), Vec::new()))
 }
 
-/// 64 rules with two references each, by name.
-pub fn names(share: usize) -> Vec<u8> {
+/// So many bytes, of rules with two references each, by name.
+pub fn named_rules(bytes: usize, count: usize) -> Job {
     let range = Range { top: 0, left: 0, bottom: 0, right: 0 };
-    let named =
-        |index: usize, bytes: usize| Operand::Reference(Reference { row: 0, col: 0, absolute: 0, name: Some(dealt(bytes, index, 128)) });
+    let named = |index: usize, bytes: usize| {
+        Operand::Reference(Reference { row: 0, col: 0, absolute: 0, name: Some(dealt(bytes, index, 2 * count)) })
+    };
     let kind =
         |index: usize, bytes: usize| Kind::Expr { op: 0, left: named(2 * index, bytes), right: named(2 * index + 1, bytes), fill: RED };
-    let rules = |bytes: usize| (0..64).map(|index| plain_rule(range, kind(index, bytes))).collect();
-    filled(MAX_TEXT / share, |bytes| two_regions(Vec::new(), rules(bytes)))
+    let rules = |bytes: usize| (0..count).map(|index| plain_rule(range, kind(index, bytes))).collect();
+    filled(bytes, |bytes| two_regions(Vec::new(), rules(bytes)))
 }
 
 /// Cells and regions in the grid's last rows and columns: the longest lines that numbers can have. At most 1,024 of each.
-pub fn numbers(share: usize) -> Vec<u8> {
+pub fn far_numbers(count: usize) -> Job {
     let far = |index: usize| (1_048_000 + (index / 16) as u32, 16_000 + (index % 16) as u16);
     let cell = |index: usize| {
         let (row, col) = far(index);
         CellAt { row, col, wraps: 255, value: Value::Number(0x3ff0_0000_0000_0000) }
     };
-    let count = 1024 / share;
     let regions = (0..count).map(far).collect();
-    let job = Job { limit: 0, start: 0, name: b"S".to_vec(), cells: (0..count).map(cell).collect(), regions, rules: Vec::new() };
-    job_text(&refused_by_check(&job))
+    Job { limit: 0, start: 0, name: b"S".to_vec(), cells: (0..count).map(cell).collect(), regions, rules: Vec::new() }
+}
+
+/// Rules with two numbers each and the longest range: the longest lines of rules that have no names.
+pub fn plain_rules(count: usize) -> Job {
+    let range = Range { top: 1_048_000, left: 16_000, bottom: 1_048_575, right: 16_383 };
+    let rule = |_| Rule { priority: Some(u32::MAX), ..plain_rule(range, between(40.0, 60.0)) };
+    two_regions(Vec::new(), (0..count).map(rule).collect())
+}
+
+/// 64 cells with texts.
+pub fn texts(share: usize) -> Vec<u8> {
+    job_text(&refused_by_check(&text_cells(MAX_TEXT / share, 64)))
+}
+
+/// 64 rules with two references each, by name.
+pub fn names(share: usize) -> Vec<u8> {
+    job_text(&refused_by_check(&named_rules(MAX_TEXT / share, 64)))
+}
+
+/// 1,024 cells and regions with long numbers, or a share of them.
+pub fn numbers(share: usize) -> Vec<u8> {
+    job_text(&refused_by_check(&far_numbers(1024 / share)))
 }
 
 /// The texts above with a malformed last line: refused with 11, and the number of that line is to be found.

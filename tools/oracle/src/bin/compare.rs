@@ -1,17 +1,20 @@
-//! Compares the static library with the original, both in this process.
+//! Compares the static library with the original, both in this process; and its saving with a reading of the papers.
 
 use std::process::ExitCode;
 
 use oracle::command::{number, run_command};
-use oracle::drive::{compare, Progress, Run};
+use oracle::drive::{compare, Due, Progress, Run};
 use oracle::generate::numbers;
-use oracle::layout::probed::probe;
-use oracle::library::{wavendiru_channel, wavendiru_ratio, wavendiru_whole_job};
+use oracle::layout::{probed::probe, ORIGINAL};
+use oracle::library::{wavendiru_channel, wavendiru_ratio, wavendiru_save_job, wavendiru_whole_job};
+use oracle::report::{outcome_by, print};
 use oracle::rng::Rng;
+use oracle::saves::{self, Tally};
 use oracle::stored;
 use oracle::tour::Tour;
 
-const USAGE: &str = "usage: compare jobs SEED COUNT [FROM] | compare leaves SEED COUNT | compare list FILE";
+const USAGE: &str =
+    "usage: compare jobs SEED COUNT [FROM] | compare saves SEED COUNT [FROM] | compare leaves SEED COUNT | compare list FILE";
 
 fn main() -> ExitCode {
     run_command("compare", run)
@@ -21,22 +24,51 @@ fn run(args: &[&str]) -> Result<(), String> {
     match args {
         ["jobs", seed, count] => jobs(number(seed)?, 0, number(count)?),
         ["jobs", seed, count, from] => jobs(number(seed)?, number(from)?, number(count)?),
+        ["saves", seed, count] => saves(number(seed)?, 0, number(count)?),
+        ["saves", seed, count, from] => saves(number(seed)?, number(from)?, number(count)?),
         ["leaves", seed, count] => leaves(number(seed)?, number(count)?),
         ["list", file] => list(file),
         _ => Err(USAGE.to_string()),
     }
 }
 
-fn jobs(seed: u64, from: u64, count: u64) -> Result<(), String> {
+fn run_of(seed: u64, from: u64, count: u64) -> Result<Run, String> {
     let to = from.checked_add(count).ok_or("there are no jobs past 2^64")?;
+    Ok(Run { seed, from, to })
+}
+
+fn jobs(seed: u64, from: u64, count: u64) -> Result<(), String> {
+    let run = run_of(seed, from, count)?;
     let mut tour = Tour::default();
     let mut progress = Progress::new(count);
-    let found = Run::new(seed, from, to).first_mismatch(wavendiru_whole_job, &mut tour, &mut |done| progress.at(done));
-    if let Some(found) = found {
+    let mut expect = |class: usize, text: &[u8]| {
+        let outcome = outcome_by(text, ORIGINAL);
+        tour.job(class, text, &outcome);
+        Due::report(print(&outcome))
+    };
+    if let Some(found) = run.first_mismatch(wavendiru_whole_job, &mut expect, &mut |done| progress.at(done)) {
         return Err(found.message(seed));
     }
     print!("{}", tour.table());
-    println!("\nseed {seed}, jobs {from} to {}: {count} compared, 0 mismatches, {:.0} s", to.saturating_sub(1), progress.seconds());
+    println!("\nseed {seed}, jobs {from} to {}: {count} compared, 0 mismatches, {:.0} s", run.to.saturating_sub(1), progress.seconds());
+    Ok(())
+}
+
+/// Each text read and saved again.
+fn saves(seed: u64, from: u64, count: u64) -> Result<(), String> {
+    let run = run_of(seed, from, count)?;
+    let mut tally = Tally::default();
+    let mut progress = Progress::new(count);
+    let mut expect = |_: usize, text: &[u8]| {
+        let saving = saves::saving(text);
+        tally.add(saving);
+        saves::due_of(text, saving)
+    };
+    if let Some(found) = run.first_mismatch(wavendiru_save_job, &mut expect, &mut |done| progress.at(done)) {
+        return Err(found.message(seed));
+    }
+    let last = run.to.saturating_sub(1);
+    println!("seed {seed}, texts {from} to {last}: {}, 0 mismatches, {:.0} s", tally.line(), progress.seconds());
     Ok(())
 }
 
@@ -85,7 +117,8 @@ fn list(file: &str) -> Result<(), String> {
     let mut rng = Rng::new(0, 0);
     let mut wrong = Vec::new();
     for (at, entry) in entries.iter().enumerate() {
-        if compare(wavendiru_whole_job, &entry.job, &entry.report, &mut rng, true).is_some() {
+        let due = Due::report(entry.report.clone());
+        if compare(wavendiru_whole_job, &entry.job, &due, &mut rng, true).is_some() {
             wrong.push(at);
         }
     }

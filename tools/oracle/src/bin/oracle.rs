@@ -5,6 +5,7 @@ use std::process::ExitCode;
 
 use oracle::command::{number, run_command};
 use oracle::curated;
+use oracle::drive::SPACE;
 use oracle::generate::{class_named, make, make_in, CLASSES};
 use oracle::layout::ORIGINAL;
 use oracle::leaf_lines::{every_channel, every_split, line, LEAVES};
@@ -12,10 +13,11 @@ use oracle::leaves::answer;
 use oracle::read::read;
 use oracle::report::{outcome_by, report};
 use oracle::rng::Rng;
+use oracle::saves;
 use oracle::stored::{self, Entry};
 use oracle::tour::Tour;
 
-const USAGE: &str = "usage: oracle report < job | job SEED NUMBER [CLASS] | classes | tour SEED COUNT \
+const USAGE: &str = "usage: oracle report < job | saved [SPACE] < job | job SEED NUMBER [CLASS] | classes | tour SEED COUNT \
     | store SEED < curated.txt | list SEED COUNT | damage-list < list | replay < list \
     | leaves < lines | leaf-lines LEAF SEED COUNT | leaf-lines every-split LENGTH | leaf-lines every-channel";
 
@@ -26,6 +28,8 @@ fn main() -> ExitCode {
 fn run(args: &[&str]) -> Result<(), String> {
     match args {
         ["report"] => put(&report(&input()?)),
+        ["saved"] => put(saves::due(&input()?).within(SPACE)),
+        ["saved", space] => put(saves::due(&input()?).within(number(space)? as usize)),
         ["job", seed, which] => put(&make(number(seed)?, number(which)?).text),
         ["job", seed, which, class] => {
             let class = class_named(class).ok_or(format!("no class {class}"))?;

@@ -2,6 +2,7 @@
 
 mod lengths;
 mod measure;
+mod saves;
 mod tables;
 
 use std::process::ExitCode;
@@ -17,7 +18,7 @@ use oracle::write::job_text;
 use lengths::Length;
 use measure::{lent_report, library, Measured};
 
-const USAGE: &str = "usage: bench | bench calls library|original divided|over KIND CELLS RULES TIMES";
+const USAGE: &str = "usage: bench | bench saves | bench calls library|original divided|over KIND CELLS RULES TIMES";
 const PASSES: usize = 8;
 
 fn main() -> ExitCode {
@@ -27,6 +28,7 @@ fn main() -> ExitCode {
 fn bench(args: &[&str]) -> Result<(), String> {
     match args {
         [] => all_tables(),
+        ["saves"] => saves::table(PASSES),
         ["calls", side, form, kind, cells, rules, times] => {
             calls(side, &chosen_job(form, kind, number(cells)?, number(rules)?)?, number(times)?)
         }

@@ -1,0 +1,17 @@
+pub mod Computing
+pub mod Examples
+pub mod AlikeTexts
+pub mod Formed
+pub mod Listed
+pub mod LinesOk
+pub mod SaidOk
+pub mod Plain
+pub mod RulesSaid
+pub mod SaidAlike
+pub mod OneJob
+pub mod ReadBack
+pub mod Thirteen
+pub mod WrittenBack
+pub mod LineLengths
+pub mod Lengths
+pub mod LongTexts

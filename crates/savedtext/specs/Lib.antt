@@ -1,0 +1,4 @@
+pub mod Saved
+pub mod Alike
+pub mod Typed
+pub mod Resaved
