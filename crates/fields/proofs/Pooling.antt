@@ -20,7 +20,7 @@ use Rattle.grammar.specs.Gram.Got.{got, bad}
 use Rattle.grammar.specs.Numbers.{hexDigit, digitValue, pairsText, areBytes, pairsFrom}
 use Rattle.grammar.proofs.Places.{past, at-head}
 use Rattle.grammar.proofs.Hexadecimals.{value-digit}
-use Rattle.grammar.proofs.Pairs.{pairs-got}
+use Rattle.grammar.proofs.Pairs.{length-pairs, pairs-got}
 
 module _ (s pool : List ℕ) (k q u : ℕ) where
   pub pooling-done : k ≤ 0 → sets pool u (pairBytes k s q) ≡ pool
@@ -112,11 +112,6 @@ pairs-are (b ∷ bs) t s at o e =
     rw (value-digit (b / 16) (omega (arith, o .0)), value-digit (b % 16) (omega arith)) (omega (arith, o .0)) in
     pairs-next (length bs) s at b bs (rw (at-head s (lo ∷ (pairsText bs ++ t)) at hi e, at-head s (pairsText bs ++ t) (at + 1) lo e1) v)
     (pairs-are bs t s (at + 2) (o .1) e2)
-
-length-pairs : (bs : List ℕ) → length (pairsText bs) ≡ length bs * 2
-unfolding pairsText
-length-pairs [] = refl
-length-pairs (b ∷ bs) = let h = length-pairs bs in omega arith
 
 -- the answer over a count, and whether it is stored
 abbrev told : Field → Bool → ReadText

@@ -14,6 +14,12 @@ use Rattle.grammar.specs.Numbers.{hexDigit, digitValue, isHex, pairsText
 use Rattle.grammar.proofs.Places.{past, bad-got, From, from}
 use Rattle.grammar.proofs.Hexadecimals.{value-digit, digit-value, digit-is-hex, is-hex-value}
 
+-- two digits a byte
+pub length-pairs : (bs : List ℕ) → length (pairsText bs) ≡ length bs * 2
+unfolding pairsText
+length-pairs [] = refl
+length-pairs (b ∷ bs) = let h = length-pairs bs in omega arith
+
 -- a byte that ends pairs is no digit, so no digit is that byte
 other : (end b : ℕ) → isHex end ≡ false → isHex b ≡ true → b ≡ end → ⊥
 other end b h g e = let z : true ≡ false = sym g ∙ (ap isHex e ∙ h) in let w : _≡_ {A = ℕ} 0 1 = cc in omega arith

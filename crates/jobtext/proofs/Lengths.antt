@@ -12,23 +12,18 @@ use Rattle.model.specs.declared.DvOp.{DvOp}
 use Rattle.model.specs.declared.Rgb.{Rgb}
 use Rattle.model.specs.Comparison.{usesSecond}
 use Rattle.grammar.specs.Parts.{bytes, timesText, timesOk}
-use Rattle.grammar.specs.Numbers.{pairsText}
+use Rattle.grammar.proofs.Pairs.{length-pairs}
 use Rattle.jobtext.specs.Written.{Value, CellLine, Reference, Operand, Kind, RuleLine}
 use Rattle.jobtext.specs.Fields.{textField, value, referenceName, reference, operand}
 use Rattle.jobtext.specs.Rules.{secondIf, cellIs, expr, kind, ruleLine}
 use Rattle.jobtext.specs.Text.{cellLine}
 use Rattle.jobtext.specs.Laid.{atsFrom, valueBytes, cellBytes, nameBytes, operandBytes, kindBytes, ruleBytes}
 
-pub pairs-length : (bs : List ℕ) → length bs * 2 ≡ length (pairsText bs)
-unfolding pairsText
-pairs-length [] = refl
-pairs-length (b ∷ bs) = let h = pairs-length bs in omega arith
-
 value-half : (v : Value) → length (valueBytes v) * 2 ≤ length (value .text v)
 unfolding value valueBytes bytes
 value-half (Value.number bits) = omega arith
 value-half (Value.date bits) = omega arith
-value-half (Value.text bs) = let h = pairs-length bs in simp length-append (omega arith)
+value-half (Value.text bs) = let h = length-pairs bs in simp length-append (omega arith)
 value-half (Value.bool b) = omega arith
 value-half Value.error = omega arith
 
@@ -45,7 +40,7 @@ cell-length c = let h = cell-half c in omega arith
 name-half : (n : Option (List ℕ)) → length (nameBytes n) * 2 ≤ length (referenceName .text n)
 unfolding referenceName textField nameBytes bytes
 name-half none = omega arith
-name-half (some bs) = let h = pairs-length bs in simp length-append (omega arith)
+name-half (some bs) = let h = length-pairs bs in simp length-append (omega arith)
 
 reference-half : (r : Reference) → length (nameBytes (r .name)) * 2 ≤ length (reference .text r)
 unfolding reference

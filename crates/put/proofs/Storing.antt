@@ -11,6 +11,7 @@ use lib.Seq.{drop-cons, sets, set-comm}
 use Rattle.memory.proofs.Laws.{sets-append}
 use Rattle.grammar.specs.Numbers.{hexDigit, hexDigits, pairsText}
 use Rattle.grammar.proofs.Hexadecimals.{length-digits}
+use Rattle.grammar.proofs.Pairs.{length-pairs}
 
 -- ---- from the first byte on
 
@@ -92,11 +93,6 @@ digits-done {d} {at} {k} {n} {e} {left} {rest} s h =
     sym (ap (λ (i : ℕ). sets e at (hexDigits i rest)) h) ∙ s .bytes
 
 -- ---- a pair a turn
-
-pub length-pairs : (bs : List ℕ) → length (pairsText bs) ≡ length bs * 2
-unfolding pairsText
-length-pairs [] = refl
-length-pairs (b ∷ bs) = let h = length-pairs bs in omega arith
 
 -- the pairs of i bytes are stored, up to q: with the others, e is d with all pairs in it
 pub record Pairs (d : List ℕ) (at : ℕ) (bs e : List ℕ) (q i : ℕ) : Type 0 where

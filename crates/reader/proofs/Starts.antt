@@ -18,7 +18,7 @@ use Rattle.jobtext.specs.Fields.{textField}
 use Rattle.jobtext.specs.Text.{Head, head}
 use Rattle.jobtext.specs.Read.{maxText, over}
 use Rattle.jobtext.proofs.Text.{head-exact}
-use Rattle.jobtext.proofs.Lengths.{pairs-length}
+use Rattle.grammar.proofs.Pairs.{length-pairs}
 use Rattle.headlines.specs.declared.ReadHead.{ReadHead}
 use Rattle.headlines.specs.Heads.{headOf, headPooled}
 use Rattle.reader.specs.declared.Start.{Start}
@@ -129,7 +129,7 @@ begun s pool {t} after e n x = go (ltb maxText (length s)) refl e n
 
 name-length : (h : Head) → length (h .name) ≤ length (head .text h)
 unfolding head textField
-name-length h = let z = pairs-length (h .name) in simp length-append (omega arith)
+name-length h = let z = length-pairs (h .name) in simp length-append (omega arith)
 
 or-first : (a b : Bool) → (a || b) ≡ false → a ≡ false
 or-first false b e = refl

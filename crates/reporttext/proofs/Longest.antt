@@ -60,11 +60,11 @@ number-length : (end n : ℕ) → length (Report.number end n) ≡ length (decim
 number-length end n = length-append (decimalText n) (end ∷ [])
 
 -- a text of at most n bytes
-record Most (n : ℕ) (xs : List ℕ) : Type 0 where
-  bytes : length xs ≤ n
+pub record Most (n : ℕ) (xs : List ℕ) : Type 0 where
+  pub bytes : length xs ≤ n
 
 -- a number with the byte that ends it
-number-most : (end n : ℕ) → Most 21 (Report.number end n)
+pub number-most : (end n : ℕ) → Most 21 (Report.number end n)
 number-most end n = record { bytes = omega (arith, number-length end n, digits-most 19 n) }
 
 number-few : (end j n : ℕ) → n < top j → Most (suc j + 1) (Report.number end n)
@@ -84,7 +84,7 @@ region-few end n h = go (ltb n 10) (ltb n 100) (ltb n 1000) refl refl refl
 
 -- ---- lines
 
-joined : {xs ys : List ℕ} {m n : ℕ} → Most m xs → Most n ys → Most (m + n) (xs ++ ys)
+pub joined : {xs ys : List ℕ} {m n : ℕ} → Most m xs → Most n ys → Most (m + n) (xs ++ ys)
 joined {xs} {ys} a b = record { bytes = omega (arith, length-append xs ys, a .bytes, b .bytes) }
 
 or-dash-most : (there : Bool) (end : ℕ) {n : ℕ} {text : List ℕ} → 2 ≤ n → Most n text → Most n (orDash there end text)

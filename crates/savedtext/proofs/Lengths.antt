@@ -13,17 +13,17 @@ use Rattle.jobtext.specs.Said.{cellsSaid, ruleSaid, jobSaid}
 use Rattle.savedtext.specs.Saved.{textOf}
 use Rattle.savedtext.proofs.Formed.{formed}
 use Rattle.savedtext.proofs.Listed.{cells-length, regions-length}
-use Rattle.savedtext.proofs.LineLengths.{Most, joined, times-most, decimal-most, text-most, length-text}
-use Rattle.savedtext.proofs.LineLengths.{cells-each, regions-each, rules-each}
+use Rattle.reporttext.proofs.Longest.{Most, number-most, joined}
+use Rattle.savedtext.proofs.LineLengths.{times-most, text-most, length-text, cells-each, regions-each, rules-each}
 
 head-most : (h : Text.Head) → length (h .name) ≤ 65_536 → Most 131_216 (Text.head .text h)
 unfolding Text.head bytes
 head-most h k =
     let line =
-    joined (decimal-most 32 (h .limit))
-    (joined (decimal-most 32 (h .start))
-    (joined (decimal-most 32 (h .cells))
-    (joined (decimal-most 32 (h .regions)) (joined (decimal-most 32 (h .rules)) (text-most 10 (h .name) k))))) in
+    joined (number-most 32 (h .limit))
+    (joined (number-most 32 (h .start))
+    (joined (number-most 32 (h .cells))
+    (joined (number-most 32 (h .regions)) (joined (number-most 32 (h .rules)) (text-most 10 (h .name) k))))) in
     record { bytes = omega (arith, line .bytes) }
 
 pub text-short : (l : ℕ) (j : Job) → WellFormed j → length (textOf l j) < 2 ^ 28

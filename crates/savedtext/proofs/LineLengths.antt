@@ -1,11 +1,11 @@
 -- How long the lines of a lent job's text are at most, whatever its numbers are, by the size of its pool: a decimal has at most 20 digits,
 -- a text two for each byte. Assumes nothing.
-use Prim.Native.Nat.{ℕ, zero, suc, _+_, _*_, _/_, _%_, _≤_}
+use Prim.Native.Nat.{ℕ, zero, suc, _+_, _*_, _≤_}
 use native.Mathlib.Omega.{arith}
 use mathlib.Core.Path.{_≡_}
 use mathlib.Core.Bool.{Bool, true, false, cond}
 use mathlib.Core.List.{List, [], _∷_, _++_, map}
-use lib.Dec.{ltb, eqb}
+use lib.Dec.{eqb}
 use lib.Ieee.{binary64, toBits}
 use lib.ListN.{length, getD, length-append, length-take, length-drop}
 use Rattle.model.specs.declared.A1Reference.{A1Reference}
@@ -23,22 +23,16 @@ use Rattle.model.specs.Comparison.{usesSecond}
 use Rattle.model.specs.Readings.{finite}
 use Rattle.model.specs.Sheet.{CellColumns, textAt}
 use Rattle.grammar.specs.Parts.{bytes, timesText, either}
-use Rattle.grammar.specs.Numbers.{digits, decimalText}
 use Rattle.grammar.proofs.Hexadecimals.{length-digits}
 use Rattle.jobtext.specs.Written.{Value, Operand}
 use Rattle.jobtext.specs.Fields as Fields
 use Rattle.jobtext.specs.Rules as Rules
 use Rattle.jobtext.specs.Text as Text
 use Rattle.jobtext.specs.Said.{valueSaid, cellSaid, cellsSaid, nameSaid, referenceSaid, literalSaid, operandSaid, kindSaid, ruleSaid}
-use Rattle.jobtext.proofs.Lengths.{pairs-length}
+use Rattle.grammar.proofs.Pairs.{length-pairs}
+use Rattle.reporttext.proofs.Longest.{Most, number-most, joined}
 
--- ---- texts of at most n bytes
-
-pub record Most (n : ℕ) (xs : List ℕ) : Type 0 where
-  pub bytes : length xs ≤ n
-
-pub joined : {xs ys : List ℕ} {m n : ℕ} → Most m xs → Most n ys → Most (m + n) (xs ++ ys)
-joined {xs} {ys} a b = record { bytes = omega (arith, length-append xs ys, a .bytes, b .bytes) }
+-- ---- a number of texts
 
 abbrev pub Each : {A : Type 0} → (A → List ℕ) → ℕ → List A → Type 0
 Each t n [] = Unit {0}
@@ -51,26 +45,12 @@ times-most t n (x ∷ xs) h =
     let more : n + n * length xs ≡ n * suc (length xs) = omega arith in
     rw more at (joined (h .0) (times-most t n xs (h .1)))
 
--- ---- numbers, pairs and colours
-
-digits-most : (k n : ℕ) → length (digits k n) ≤ suc k
-unfolding digits
-digits-most zero n = omega arith
-digits-most (suc k) n = go (ltb n 10) (digits-most k (n / 10))
-  where
-    go : (b : Bool) → length (digits k (n / 10)) ≤ suc k
-        → length (cond b ((48 + n) ∷ []) (digits k (n / 10) ++ ((48 + n % 10) ∷ []))) ≤ suc (suc k)
-    go true h = omega arith
-    go false h = omega (arith, length-append (digits k (n / 10)) ((48 + n % 10) ∷ []))
-
--- a number and the byte that ends it
-pub decimal-most : (end n : ℕ) → Most 21 (decimalText n ++ (end ∷ []))
-decimal-most end n = record { bytes = omega (arith, length-append (decimalText n) (end ∷ []), digits-most 19 n) }
+-- ---- texts, colours and bits
 
 -- a text of the pool, with the byte ahead of it and the one that ends it
 pub text-most : (end : ℕ) (bs : List ℕ) → length bs ≤ 65_536 → Most 131_074 (Fields.textField end .text bs)
 unfolding Fields.textField bytes
-text-most end bs h = record { bytes = simp length-append (omega (arith, pairs-length bs)) }
+text-most end bs h = record { bytes = simp length-append (omega (arith, length-pairs bs)) }
 
 colour-most : (end : List ℕ) (n : ℕ) (c : Rgb) → length end ≤ n → Most (6 + n) (Fields.colour end .text c)
 unfolding Fields.colour
@@ -92,7 +72,7 @@ either-most w v n h k true = record { bytes = k }
 priority-most : (p : Priority) → Most 21 (Fields.priority .text p)
 unfolding Fields.priority bytes
 priority-most Priority.Missing = record { bytes = omega arith }
-priority-most (Priority.Written n) = decimal-most 32 n
+priority-most (Priority.Written n) = number-most 32 n
 
 scale2-most : (min max : Rgb) → Most 18 (Rules.scale2 .text (min, max))
 unfolding Rules.scale2 bytes
@@ -110,7 +90,7 @@ bar-most c = colour-most _ 7 c (omega arith)
 rank-most : (number : ℕ) (bottom percent : Bool) (fill : Rgb) → Most 43 (Rules.rank .text (number, (bottom, (percent, fill))))
 unfolding Rules.rank bytes
 rank-most number bottom percent fill =
-    joined (decimal-most 32 number)
+    joined (number-most 32 number)
     (joined (either-most (bytes "top ") (bytes "bottom ") 7 (omega arith) (omega arith) bottom)
     (joined (either-most (bytes "count ") (bytes "percent ") 8 (omega arith) (omega arith) percent) (colour-most _ 1 fill (omega arith))))
 
@@ -152,9 +132,9 @@ module _ (pool : List ℕ) (few : length pool ≤ 65_536) where
   cell-most : (c : CellColumns) (i : ℕ) → Most 131_137 (Text.cellLine .text (cellSaid pool c i))
   unfolding Text.cellLine cellSaid
   cell-most c i =
-      joined (decimal-most 32 (getD (c .rows) i 0)) (
-      joined (decimal-most 32 (getD (c .cols) i 0)) (
-      joined (decimal-most 32 (getD (c .wraps) i 0))
+      joined (number-most 32 (getD (c .rows) i 0)) (
+      joined (number-most 32 (getD (c .cols) i 0)) (
+      joined (number-most 32 (getD (c .wraps) i 0))
       (value-most (getD (c .kinds) i 0) (getD (c .nums) i 0) (getD (c .ats) i 0) (getD (c .lens) i 0))))
 
   pub cells-each : (c : CellColumns) (i n : ℕ) → Each (Text.cellLine .text) 131_137 (cellsSaid pool c i n)
@@ -170,7 +150,7 @@ module _ (pool : List ℕ) (few : length pool ≤ 65_536) where
   reference-most : (r : A1Reference) → Most 131_137 (Fields.reference .text (referenceSaid pool r))
   unfolding Fields.reference referenceSaid
   reference-most r =
-      joined (decimal-most 44 (r .row)) (joined (decimal-most 44 (r .col)) (joined (decimal-most 44 _) (name-most (r .sheet))))
+      joined (number-most 44 (r .row)) (joined (number-most 44 (r .col)) (joined (number-most 44 _) (name-most (r .sheet))))
 
   operand-most : (o : ConditionalOperand) → Most 131_138 (Fields.operand .text (operandSaid pool o))
   unfolding Fields.operand operandSaid literalSaid bytes
@@ -193,14 +173,14 @@ module _ (pool : List ℕ) (few : length pool ≤ 65_536) where
       (op, (operandSaid pool first, (cond (usesSecond op) (operandSaid pool second) Operand.unread, fill))))
   unfolding Rules.cellIs Fields.dvOp bytes
   cellIs-most op first second fill =
-      joined (decimal-most 32 _)
+      joined (number-most 32 _)
       (joined (operand-most first) (joined (second-most (usesSecond op) second) (colour-most _ 1 fill (omega arith))))
 
   expr-most : (op : ConditionalComparison) (left right : ConditionalOperand) (fill : Rgb)
       → Most 262_304 (Rules.expr .text (op, (operandSaid pool left, (operandSaid pool right, fill))))
   unfolding Rules.expr Fields.comparison bytes
   expr-most op left right fill =
-      joined (decimal-most 32 _) (joined (operand-most left) (joined (operand-most right) (colour-most _ 1 fill (omega arith))))
+      joined (number-most 32 _) (joined (operand-most left) (joined (operand-most right) (colour-most _ 1 fill (omega arith))))
 
   kind-most : (k : CfRule) → Most 262_311 (Rules.kind .text (kindSaid pool k))
   unfolding Rules.kind kindSaid bytes
@@ -217,10 +197,10 @@ module _ (pool : List ℕ) (few : length pool ≤ 65_536) where
   unfolding Rules.ruleLine ruleSaid bytes
   rule-most r =
       let flag : (b : Bool) → Most 2 (Fields.flag .text b) = either-most (bytes "0 ") (bytes "1 ") 2 (omega arith) (omega arith) in
-      joined (decimal-most 32 (r .range .top)) (
-      joined (decimal-most 32 (r .range .left)) (
-      joined (decimal-most 32 (r .range .bottom)) (
-      joined (decimal-most 32 (r .range .right)) (
+      joined (number-most 32 (r .range .top)) (
+      joined (number-most 32 (r .range .left)) (
+      joined (number-most 32 (r .range .bottom)) (
+      joined (number-most 32 (r .range .right)) (
       joined (priority-most (r .priority)) (joined (flag (r .stop)) (joined (flag (r .imported)) (kind-most (r .kind))))))))
 
   pub rules-each : (rs : List Rule) → Each (Rules.ruleLine .text) 262_420 (map (ruleSaid pool) rs)
@@ -230,4 +210,4 @@ module _ (pool : List ℕ) (few : length pool ≤ 65_536) where
 pub regions-each : (rs : List CellCoordinate) → Each (Text.regionLine .text) 42 rs
 unfolding Text.regionLine
 regions-each [] = tt
-regions-each (r ∷ rs) = (joined (decimal-most 32 (r .row)) (decimal-most 10 (r .col)), regions-each rs)
+regions-each (r ∷ rs) = (joined (number-most 32 (r .row)) (number-most 10 (r .col)), regions-each rs)

@@ -13,7 +13,7 @@ use Rattle.model.specs.Job.{Job}
 use Rattle.model.proofs.Samples.{span, allOf, jobIn}
 use Rattle.laws.specs.Demands.{WellFormed}
 use Rattle.grammar.specs.Numbers.{pairsText}
-use Rattle.jobtext.proofs.Lengths.{pairs-length}
+use Rattle.grammar.proofs.Pairs.{length-pairs}
 use Rattle.savedtext.specs.Saved.{textOf, saved}
 use Rattle.savedtext.proofs.Computing.{writing}
 use Rattle.savedtext.proofs.Thirteen.{saved-fits, thirteen-saved}
@@ -31,7 +31,7 @@ name-length : (n : ℕ) → length (pairsText (take n (replicate n 0))) ≡ n * 
 name-length n =
     let long : length (replicate {A = ℕ} n 0) ≡ n = length-replicate n 0 in
     let whole : take n (replicate {A = ℕ} n 0) ≡ replicate n 0 = take-all n (replicate n 0) (omega arith) in
-    rw whole (omega (arith, pairs-length (replicate n 0)))
+    rw whole (omega (arith, length-pairs (replicate n 0)))
 
 named-length : (n : ℕ) → length (textOf 0 (named n)) ≡ 139 + n * 2
 unfolding writing named

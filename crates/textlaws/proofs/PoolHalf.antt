@@ -13,7 +13,8 @@ use Rattle.jobtext.specs.Fields.{textField}
 use Rattle.jobtext.specs.Text.{Head, head, tail, bodyT, bodyOf, body, ofJob, job}
 use Rattle.jobtext.specs.Read.{over}
 use Rattle.jobtext.specs.Laid.{cellBytes, ruleBytes, laid}
-use Rattle.jobtext.proofs.Lengths.{pairs-length, cells-half, rules-half}
+use Rattle.grammar.proofs.Pairs.{length-pairs}
+use Rattle.jobtext.proofs.Lengths.{cells-half, rules-half}
 
 -- ---- the counts
 
@@ -33,7 +34,7 @@ counts-few h e =
 
 head-half : (h : Head) → length (h .name) * 2 ≤ length (head .text h)
 unfolding head textField bytes
-head-half h = let n = pairs-length (h .name) in simp length-append (omega arith)
+head-half h = let n = length-pairs (h .name) in simp length-append (omega arith)
 
 body-half : (h : Head) (b : bodyT) → body h .Ok b
     → (length (cellBytes (b .0)) + length (ruleBytes (b .1 .1))) * 2 ≤ length (body h .text b)

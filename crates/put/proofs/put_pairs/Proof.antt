@@ -8,7 +8,8 @@ use borrow.Author.Needs.{needs}
 use borrow.Author.Tests.{leb-true, leb-false, not-true, not-false}
 use Rattle.put.proofs.Laws.{laid-fits, laid-over}
 use Rattle.put.proofs.Keeping.{none-kept}
-use Rattle.put.proofs.Storing.{length-pairs, Pairs, pairs-begun, pairs-more, pairs-done}
+use Rattle.grammar.proofs.Pairs.{length-pairs}
+use Rattle.put.proofs.Storing.{Pairs, pairs-begun, pairs-more, pairs-done}
 use Rattle.put.proofs.put_pairs.Statement.{statement}
 use Rattle.put.proofs.put_pairs.Tie as tie
 
