@@ -20,7 +20,7 @@ pub record Told (s : Summary) : Type 0 where
 
 -- ---- the checks
 
-data Checks : Option Summary → Type 0 where
+pub data Checks : Option Summary → Type 0 where
   passed : Checks none
   met : {s : Summary} → Told s → Checks (some s)
 
@@ -45,7 +45,7 @@ module _ (j : Job) where
   at-told number none t = passed
   at-told number (some place) t = met (t place)
 
-  malformed-told : Checks (malformed j)
+  pub malformed-told : Checks (malformed j)
   unfolding malformed summary
   malformed-told =
       first-told (also (if-told 1 0 _ (record { by = Answer.LengthsDiffer (j .start); is = refl }))

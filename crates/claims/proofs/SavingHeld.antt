@@ -1,13 +1,14 @@
 -- Each claim of specs/Saving.antt, held. Assumes nothing.
 use Prim.Native.Nat.{ℕ, _-_, _≤_}
-use mathlib.Core.Path.{_≡_, refl, sym, ap, ap₂, _∙_}
+use native.Mathlib.Omega.{arith}
+use mathlib.Core.Path.{_≡_, refl, sym, ap, ap₂, subst, _∙_}
 use mathlib.Core.List.{List, _++_}
 use mathlib.Core.Option.{Option, none, some}
 use lib.ListN.{length, replicate}
-use borrow.Author.Tests.{eq-eqb}
+use borrow.Author.Tests.{eq-eqb, ne-eqb}
 use Rattle.memory.specs.Memory.{page, pageLength}
 use Rattle.memory.proofs.Laws.{text-fits}
-use Rattle.model.specs.Answer.{Summary, refused, summary}
+use Rattle.model.specs.Answer.{Summary, refusal, answer, refused, summary}
 use Rattle.model.specs.Job.{Job, malformed, result}
 use Rattle.laws.specs.Demands.{WellFormed}
 use Rattle.jobtext.specs.Read.{maxText}
@@ -16,12 +17,14 @@ use Rattle.savedtext.specs.Saved.{textOf, saved, isSaved, savedLength, savedByt
 use Rattle.savedtext.proofs.AlikeTexts.{alike-texts}
 use Rattle.savedtext.proofs.OneJob.{fronts-alike, texts-alike}
 use Rattle.savedtext.proofs.ReadBack.{read-back}
-use Rattle.savedtext.proofs.Thirteen.{thirteen, thirteen-values, saved-exactly, saved-fits, saved-malformed, saved-zeros, saved-whole}
+use Rattle.savedtext.proofs.Thirteen as thirteens
+use Rattle.savedtext.proofs.Thirteen.{malformed-number, thirteen, thirteen-values, saved-exactly, saved-fits, saved-malformed, saved-zeros, saved-whole}
 use Rattle.savedtext.proofs.WrittenBack as back
 use Rattle.writer.specs.declared.Saved.{Saved}
-use Rattle.writer.specs.Answers.{summaryOf}
+use Rattle.writer.specs.Answers.{summaryOf, lengthOf}
 use Rattle.claims.specs.Saving as Saving
 use Rattle.claims.specs.Saving.{Where, Ends, IsWritten}
+use Rattle.claims.proofs.Answers.{Told, Checks, malformed-told}
 
 -- ---- what the contract promises
 
@@ -45,14 +48,56 @@ nothing-asked-of-saving κs a = tt
 pub saving-determined : Saving.Determined
 saving-determined w j limit before after a e = (e .0, e .1 .0, e .1 .1)
 
+told-some : (o : Option Summary) (s : Summary) → o ≡ some s → Checks o → Told s
+told-some none s e c = absurd (let no : _≡_ {A = ℕ} 0 1 = cc in omega arith)
+told-some (some x) s e (Checks.met t) = let same : x ≡ s = cc in subst Told same t
+
+module _ (j : Job) (limit room : ℕ) where
+  none-saved : (saved limit j room .number ≡ 0 → ⊥) → 0 ≡ savedLength limit j room
+  unfolding savedLength isSaved
+  none-saved nonzero = rw (ne-eqb (saved limit j room .number) 0 nonzero)
+
+  all-saved : saved limit j room .number ≡ 0 → length (textOf limit j) ≡ savedLength limit j room
+  unfolding savedLength isSaved
+  all-saved z = rw (eq-eqb (saved limit j room .number) 0 z)
+
+pub saving-possible : Saving.Possible
+unfolding summaryOf lengthOf refusal answer
+saving-possible w j limit before = go (thirteens.saving limit j room)
+  where
+    room : ℕ
+    room = length before
+
+    number : {s : Summary} → saved limit j room ≡ s → saved limit j room .number ≡ s .number
+    number is = ap (λ (x : Summary). x .number) is
+
+    go : thirteens.Saving limit j room → Saving.Ending w j limit before
+    go (thirteens.Saving.refused s m is) =
+        let t = told-some (malformed j) s m (malformed-told j) in
+        let no = none-saved j limit room (λ z. omega (arith, malformed-number j s m .0, number is)) in
+        record { answer = Saved.Refused (t .by); after = savedBytes limit j room; ends = (t .is ∙ sym is, (no, refl)) }
+    go (thirteens.Saving.tooLong f long is) =
+        let no = none-saved j limit room (λ z. omega (arith, number is)) in
+        record {
+          answer = Saved.TooLong (j .start) (length (textOf limit j));
+          after = savedBytes limit j room;
+          ends = (sym is, (no, refl));
+        }
+    go (thirteens.Saving.whole f fits most is) =
+        let all = all-saved j limit room (number is) in
+        record {
+          answer = Saved.Written (j .start) (length (textOf limit j));
+          after = savedBytes limit j room;
+          ends = (sym is, (all, refl));
+        }
+
 pub saving-demand-one : Saving.DemandOne
-unfolding savedLength isSaved
 saving-demand-one w j limit before after a e =
     let number = the-number w j limit before after a e in
     record {
       refused = λ no. the-bytes w j limit before after a e ∙ saved-zeros limit j (length before) (λ z. no (number ∙ z));
       written = λ z. the-bytes w j limit before after a e ∙ saved-whole limit j (length before) (sym number ∙ z);
-      length = λ z. e .1 .0 ∙ rw (eq-eqb _ 0 (sym number ∙ z));
+      length = λ z. e .1 .0 ∙ sym (all-saved j limit (length before) (sym number ∙ z));
     }
 
 pub refused-alike : Saving.RefusedAlike

@@ -7,7 +7,6 @@ use Prim.Native.Nat.{ℕ, _+_, _-_, _*_, _^_, _≤_, _<_}
 use mathlib.Core.Path.{_≡_}
 use mathlib.Core.Logic.{_↔_}
 use mathlib.Core.List.{List, [], _∷_}
-use base.Fml.{GName}
 use contract.Lifetimes.{Lfts}
 use denote.Ref.{RefT}
 use lib.ListN.{length}
@@ -20,29 +19,12 @@ use Rattle.model.specs.Job.{Job, rulesOf, cellCount, regionCount, runOf, result
 use Rattle.model.specs.Columns.{Columns, written, columnsOf}
 use Rattle.laws.specs.Demands.{WellFormed, Roomy, reached, markCount, Enough, duplicateAreas, zeros, lengthsOf}
 use Rattle.call.proofs.resolve_conditional_paints.Reads as call
+use Rattle.claims.specs.Arguments.{Places, slice, Numbers, _⊗_, _&_}
 
 -- ---- the arguments of the call, by their names
 
--- where the lent slices lie, by the number of the parameter
-pub record Where : Type 0 where
-  pub lifetimes : Lfts 18
-  pub place : ℕ → ℕ × ℕ
-  pub name : ℕ → GName
-
-abbrev slice : {A : Type 0} → Where → ℕ → List A → RefT (List A)
-slice w i xs = record { ptr = w .place i; name = w .name i; now = xs }
-
--- the parameters in their order: pairs in pairs, as the contract's reading has them
-infixr 3 _⊗_
-abbrev _⊗_ : Type 0 → Type 0 → Type 0
-A ⊗ B = A × B
-
-infixr 3 _&_
-abbrev _&_ : {A B : Type 0} → A → B → A ⊗ B
-a & b = (a, b)
-
-abbrev Numbers : Type 0
-Numbers = RefT (List ℕ)
+abbrev pub Where : Type 0
+Where = Places 18
 
 abbrev pub Args : Type 0
 Args =

@@ -6,9 +6,7 @@ use mathlib.Core.Path.{_≡_}
 use mathlib.Core.Logic.{_⊎_, _↔_}
 use mathlib.Core.List.{List, [], _∷_}
 use mathlib.Core.Option.{some}
-use base.Fml.{GName}
 use contract.Lifetimes.{Lfts}
-use denote.Ref.{RefT}
 use lib.ListN.{length, replicate}
 use types.Run.{OneOf}
 use Rattle.memory.specs.Memory.{page, pageLength}
@@ -30,30 +28,14 @@ use Rattle.writer.specs.declared.Saved.{Saved}
 use Rattle.writer.specs.Answers.{summaryOf, lengthOf}
 use Rattle.writer.proofs.write_job.Reads as write
 use Rattle.saveexports.proofs.wavendiru_save_job.Reads as saveCall
+use Rattle.claims.specs.Arguments.{Places, slice, Numbers, _⊗_, _&_}
 use Rattle.claims.specs.Claims as Deciding
+use Rattle.claims.specs.WholeJobs.{Lent, TextAndReport, args as textAndLent}
 
 -- ---- the arguments of the writer, by their names
 
--- where the lent slices lie, by the number of the parameter
-pub record Where : Type 0 where
-  pub lifetimes : Lfts 11
-  pub place : ℕ → ℕ × ℕ
-  pub name : ℕ → GName
-
-abbrev slice : Where → ℕ → List ℕ → RefT (List ℕ)
-slice w i xs = record { ptr = w .place i; name = w .name i; now = xs }
-
--- the parameters in their order: pairs in pairs, as the contract's reading has them
-infixr 3 _⊗_
-abbrev _⊗_ : Type 0 → Type 0 → Type 0
-A ⊗ B = A × B
-
-infixr 3 _&_
-abbrev _&_ : {A B : Type 0} → A → B → A ⊗ B
-a & b = (a, b)
-
-abbrev Numbers : Type 0
-Numbers = RefT (List ℕ)
+abbrev pub Where : Type 0
+Where = Places 11
 
 abbrev pub Args : Type 0
 Args =
@@ -86,6 +68,15 @@ abbrev pub Determined : Type 0
 Determined = (w : Where) (j : Job) (limit : ℕ) (before after : List ℕ) (a : Saved) → Ends w j limit before a after
     → (summaryOf a ≡ saved limit j (length before)) × (lengthOf a ≡ savedLength limit j (length before))
     × (after ≡ savedBytes limit j (length before))
+
+-- an answer and bytes that the contract allows, on every input
+pub record Ending (w : Where) (j : Job) (limit : ℕ) (before : List ℕ) : Type 0 where
+  pub answer : Saved
+  pub after : List ℕ
+  pub ends : Ends w j limit before answer after
+
+abbrev pub Possible : Type 0
+Possible = (w : Where) (j : Job) (limit : ℕ) (before : List ℕ) → Ending w j limit before
 
 -- demand 1: after a refusal zeros from end to end, else the whole text and zeros behind it
 pub record Complete (j : Job) (limit : ℕ) (before after : List ℕ) (a : Saved) : Type 0 where
@@ -150,25 +141,11 @@ ReadBack = (w : Where) (j : Job) (limit : ℕ) (before after : List ℕ) (a : Sa
 
 -- ---- the call for C
 
-pub record Lent : Type 0 where
-  pub lifetimes : Lfts 2
-  pub place : ℕ → ℕ × ℕ
-  pub name : ℕ → GName
-
-abbrev bytes : Lent → ℕ → List ℕ → RefT (List ℕ)
-bytes l i bs = record { ptr = l .place i; name = l .name i; now = bs }
-
-abbrev pub TextAndSaved : Type 0
-TextAndSaved = Numbers × (Numbers × Unit {0})
-
-abbrev textAndSaved : Lent → List ℕ → List ℕ → TextAndSaved
-textAndSaved l text out = (bytes l 0 text, (bytes l 1 out, tt))
-
 abbrev pub Saves : Lent → List ℕ → List ℕ → ℕ → List ℕ → Type 0
-Saves l text before r after = saveCall.Post (l .lifetimes) (textAndSaved l text before) r (textAndSaved l text after)
+Saves l text before r after = saveCall.Post (l .lifetimes) (textAndLent l text before) r (textAndLent l text after)
 
 abbrev pub NothingAskedOfSaves : Type 0
-NothingAskedOfSaves = (κs : Lfts 2) (a : TextAndSaved) → saveCall.Pre κs a
+NothingAskedOfSaves = (κs : Lfts 2) (a : TextAndReport) → saveCall.Pre κs a
 
 -- the text or the two lines of a refused report, and zeros behind; 0 and zeros alone where that is longer than the lent bytes
 abbrev pub Resaved : Type 0

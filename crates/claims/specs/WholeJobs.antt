@@ -4,9 +4,7 @@
 use Prim.Native.Nat.{ℕ, _≤_}
 use mathlib.Core.Path.{_≡_}
 use mathlib.Core.List.{List}
-use base.Fml.{GName}
 use contract.Lifetimes.{Lfts}
-use denote.Ref.{RefT}
 use lib.ListN.{length, take}
 use lib.Ieee.{Float}
 use Rattle.model.specs.Ratio.{ratio, channel}
@@ -18,23 +16,19 @@ use Rattle.reporttext.specs.Longest.{longest}
 use Rattle.exports.proofs.wavendiru_whole_job.Reads as wholeJob
 use Rattle.exports.proofs.wavendiru_ratio.Reads as ratioCall
 use Rattle.exports.proofs.wavendiru_channel.Reads as channelCall
+use Rattle.claims.specs.Arguments.{Places, slice, Numbers, _⊗_, _&_}
 
 -- ---- the whole job
 
 -- where the text and the report lie
-pub record Lent : Type 0 where
-  pub lifetimes : Lfts 2
-  pub place : ℕ → ℕ × ℕ
-  pub name : ℕ → GName
-
-abbrev bytes : Lent → ℕ → List ℕ → RefT (List ℕ)
-bytes l i bs = record { ptr = l .place i; name = l .name i; now = bs }
+abbrev pub Lent : Type 0
+Lent = Places 2
 
 abbrev pub TextAndReport : Type 0
-TextAndReport = RefT (List ℕ) × (RefT (List ℕ) × Unit {0})
+TextAndReport = Numbers ⊗ Numbers ⊗ Unit {0}
 
-abbrev args : Lent → List ℕ → List ℕ → TextAndReport
-args l text report = (bytes l 0 text, (bytes l 1 report, tt))
+abbrev pub args : Lent → List ℕ → List ℕ → TextAndReport
+args l text report = slice l 0 text & slice l 1 report & tt
 
 -- the call on a text ends with this length, and leaves this in the bytes that held `before`
 abbrev pub Prints : Lent → List ℕ → List ℕ → ℕ → List ℕ → Type 0
