@@ -9,12 +9,12 @@ mod damages;
 
 use std::fs;
 use std::path::{Path, PathBuf};
+use std::process::Command;
 
 const EXPECTED: &str = "9874a1452e97bff8389bba4e2b8694e18c128c4cc5ea929850ee349c06b680a0";
 
 fn main() {
     println!("cargo::rerun-if-env-changed=CONDITIONAL_RS");
-    println!("cargo::rerun-if-env-changed=WAVENDIRU_LIB");
     println!("cargo::rerun-if-changed=build.rs");
     println!("cargo::rerun-if-changed=src/sha256.rs");
     println!("cargo::rerun-if-changed=src/damages.rs");
@@ -39,7 +39,7 @@ fn build() -> Result<(), String> {
     modules.push_str(&format!("pub const DAMAGED: &[(&str, Resolve)] = &[{table}];\n"));
     write(&out.join("original.rs"), &modules)?;
     if std::env::var_os("CARGO_FEATURE_LIBRARY").is_some() {
-        link_library()?;
+        link_library(&out)?;
     }
     Ok(())
 }
@@ -77,19 +77,49 @@ fn add_damaged(modules: &mut String, out: &Path, original: &str) -> Result<Strin
     Ok(table)
 }
 
-fn link_library() -> Result<(), String> {
-    let folder = std::env::var("WAVENDIRU_LIB")
-        .map_err(|_| "WAVENDIRU_LIB is not set: it has to name the folder that holds libexports.a and libsaveexports.a".to_string())?;
-    println!("cargo::rustc-link-search=native={folder}");
-    for name in ["exports", "saveexports"] {
-        let archive = Path::new(&folder).join(format!("lib{name}.a"));
-        println!("cargo::rerun-if-changed={}", archive.display());
-        if !archive.is_file() {
-            return Err(format!("WAVENDIRU_LIB={folder} holds no lib{name}.a (rt staticlib {name} writes it)"));
-        }
-        println!("cargo::rustc-link-lib=static={name}");
+/// Today's archives. With the feature `before` the whole job comes from a copy of libexports.a, and another from an earlier libexports.a.
+fn link_library(out: &Path) -> Result<(), String> {
+    let exports = archive("WAVENDIRU_LIB", "exports")?;
+    if std::env::var_os("CARGO_FEATURE_BEFORE").is_some() {
+        let earlier = archive("WAVENDIRU_BEFORE", "exports")?;
+        link(&aligned_copy(&exports, out.join("libafter.a"), &[])?, "after");
+        link(&aligned_copy(&earlier, out.join("libbefore.a"), &RENAMED)?, "before");
+    } else {
+        link(&exports, "exports");
     }
+    link(&archive("WAVENDIRU_LIB", "saveexports")?, "saveexports");
     Ok(())
+}
+
+fn archive(variable: &str, name: &str) -> Result<PathBuf, String> {
+    println!("cargo::rerun-if-env-changed={variable}");
+    let folder = std::env::var(variable).map_err(|_| format!("{variable} is not set: it has to name the folder that holds lib{name}.a"))?;
+    let archive = Path::new(&folder).join(format!("lib{name}.a"));
+    println!("cargo::rerun-if-changed={}", archive.display());
+    if !archive.is_file() {
+        return Err(format!("{variable}={folder} holds no lib{name}.a (rt staticlib {name} writes it)"));
+    }
+    Ok(archive)
+}
+
+/// Of an earlier archive the whole job alone stays visible, under a name of its own.
+const RENAMED: [&str; 2] =
+    ["--redefine-sym=wavendiru_whole_job=wavendiru_whole_job_before", "--keep-global-symbol=wavendiru_whole_job_before"];
+
+/// A copy whose code starts at multiples of 64 bytes: else where the linker puts two archives tells more than what is in them.
+fn aligned_copy(archive: &Path, copy: PathBuf, options: &[&str]) -> Result<PathBuf, String> {
+    let status = Command::new("objcopy").arg("--set-section-alignment=.text*=64").args(options).arg(archive).arg(&copy).status();
+    if !status.map_err(|e| format!("objcopy (GNU binutils) cannot be run: {e}"))?.success() {
+        return Err(format!("objcopy cannot copy {}", archive.display()));
+    }
+    Ok(copy)
+}
+
+fn link(archive: &Path, name: &str) {
+    if let Some(folder) = archive.parent() {
+        println!("cargo::rustc-link-search=native={}", folder.display());
+    }
+    println!("cargo::rustc-link-lib=static={name}");
 }
 
 fn write(path: &Path, text: &str) -> Result<(), String> {

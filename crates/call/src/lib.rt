@@ -1,6 +1,7 @@
 // The call over lent columns: all that is lent for writing holds the complete result, or zeros.
 mod columns;
 mod marks;
+mod operands;
 mod rules;
 
 use crate::columns::clear_columns;

@@ -1,27 +1,34 @@
-// The rules of a job in their order: each is judged, then its marks, stops and bars are written out.
+// The rules of a job in their order: each is judged, then its marks, stops and bars are written out. The cells and the regions rise.
 use crate::marks::draw_bars;
 use crate::marks::emit_marks;
 use crate::marks::stop_regions;
+use crate::operands::find_operands;
 use charging::Charged;
 use charging::Counter;
 use model::Rule;
 use model::Rules;
 use model::Span;
+use places::walk_cells;
 use settling::Ran;
 ghost use Prim.Native.Nat.{_+_, _≤_};
 ghost use mathlib.Core.Path.{_≡_};
+ghost use mathlib.Core.Option.{none};
 ghost use lib.ListN.{length, replicate};
+ghost use Rattle.model.specs.Job.{firstFall};
 ghost use Rattle.model.specs.Ratio.{zeroF};
 ghost use Rattle.cells.specs.Columns.{columns};
+ghost use Rattle.judge.specs.Judge.{Followed};
 ghost use Rattle.turns.specs.Emit.{markColumns, barColumns};
 ghost use Rattle.turns.specs.Turns.{stateOf, ranNone, indexed, turn, left, leftBy, sheetIn, sayIn, runIn};
 
-// One rule: its charges and outcomes, then its marks after those that are there, its stops and its bars.
+// One rule: its charges and outcomes, then its marks after those that are there, its stops and its bars. `places` is the table of the
+// regions' own cells; the tables for the operands are made anew.
 fn turn(
     rule: Rule,
     index: u8,
     ran: Ran,
     limit: u64,
+    places: &[u16],
     rows: &[u32],
     cols: &[u16],
     kinds: &[u8],
@@ -33,6 +40,8 @@ fn turn(
     region_cols: &[u16],
     pool: &[u8],
     sheet: Span,
+    firsts: &mut [u16],
+    seconds: &mut [u16],
     flags: &mut [u8],
     regions: &mut [u32],
     ruleids: &mut [u32],
@@ -44,6 +53,10 @@ fn turn(
     scratch: &mut [f64],
 ) -> Ran
     requires { ⌜ (ran .marks ≤ 65536) × (ran .deferred ≤ 64) × (ran .simplified ≤ 64) ⌝ }
+    requires { ⌜ (firstFall (now rows) (now cols) ≡ none) × (length (now rows) ≤ 1024) ⌝ }
+    requires { ⌜ (length (now «region_rows») ≤ length (now firsts)) × (length (now «region_rows») ≤ length (now seconds)) ⌝ }
+    requires { ⌜ Followed (columns (now rows) (now cols) (now kinds) (now wraps) (now nums) (now ats) (now lens)) (now «region_rows»)
+        (now «region_cols») (now places) ⌝ }
     ensures turn { λ r. ⌜ stateOf r (now (flags .exit)) (markColumns (now (regions .exit)) (now (ruleids .exit)) (now (markkinds .exit))
         (now (colours .exit)) (now (ppms .exit)))
         (barColumns (now (barrules .exit)) (now (barppms .exit)))
@@ -60,11 +73,26 @@ fn turn(
     ensures scratch { λ _. ⌜ now (scratch .exit) ≡ replicate (length (now (scratch .entry))) zeroF ⌝ }
 {
     let before = ran.charged;
+    find_operands(
+        rule,
+        before,
+        rows,
+        cols,
+        region_rows,
+        region_cols,
+        pool,
+        sheet,
+        firsts,
+        seconds,
+    );
     let said = steps::step_rule(
         rule,
         before,
         limit,
         flags,
+        places,
+        firsts,
+        seconds,
         rows,
         cols,
         kinds,
@@ -75,7 +103,6 @@ fn turn(
         region_rows,
         region_cols,
         pool,
-        sheet,
         scratch,
     );
     let outcomes = said.outcomes;
@@ -112,7 +139,8 @@ fn none_yet(start: u64) -> Ran
     }
 }
 
-// All rules from the count `start`. Port of the loop over `rule_order` in resolve_conditional_paints (conditional.rs).
+// All rules from the count `start`, with the places of the regions' cells found once. Port of the loop over `rule_order` in
+// resolve_conditional_paints (conditional.rs).
 pub(crate) fn run(
     rules: Rules,
     start: u64,
@@ -137,6 +165,8 @@ pub(crate) fn run(
     barppms: &mut [u32],
     scratch: &mut [f64],
 ) -> Ran
+    requires { ⌜ (firstFall (now rows) (now cols) ≡ none) × (length (now rows) ≤ 1024) ⌝ }
+    requires { ⌜ (firstFall (now «region_rows») (now «region_cols») ≡ none) × (length (now «region_rows») ≤ 1024) ⌝ }
     ensures run { λ r. ⌜ left r (markColumns (now (regions .exit)) (now (ruleids .exit)) (now (markkinds .exit))
         (now (colours .exit)) (now (ppms .exit)))
         (barColumns (now (barrules .exit)) (now (barppms .exit))) ≡ leftBy (runIn (sheetIn (columns (now (rows .entry)) (now
@@ -150,6 +180,10 @@ pub(crate) fn run(
 {
     let order = order::order_rules(rules);
     let count = order::rule_count(rules);
+    let mut places = [0u16; 1024];
+    walk_cells(rows, cols, region_rows, region_cols, &mut places);
+    let mut firsts = [0u16; 1024];
+    let mut seconds = [0u16; 1024];
     let mut flags = [0u8; 1024];
     let mut ran = none_yet(start);
     lent::clear_f64(scratch);
@@ -163,6 +197,7 @@ pub(crate) fn run(
             index,
             ran,
             limit,
+            &places,
             rows,
             cols,
             kinds,
@@ -174,6 +209,8 @@ pub(crate) fn run(
             region_cols,
             pool,
             sheet,
+            &mut firsts,
+            &mut seconds,
             &mut flags,
             regions,
             ruleids,

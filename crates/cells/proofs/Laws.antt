@@ -1,7 +1,7 @@
 -- Cells from their columns: what is left of them from an index on, the cell at an index, and the cell at a coordinate by its place.
 -- Assumes nothing.
 use Prim.Native.Nat.{ℕ, zero, suc, _+_, _-_, _≤_, _<_}
-use mathlib.Core.Path.{_≡_, refl, ap, _∙_}
+use mathlib.Core.Path.{_≡_, refl, sym, ap, _∙_}
 use mathlib.Core.Bool.{Bool, true, false, cond}
 use mathlib.Core.List.{[], _∷_}
 use mathlib.Core.Option.{Option, none, some}
@@ -14,7 +14,7 @@ use borrow.Author.Tests.{lt-ltb, le-ltb}
 use Rattle.model.specs.declared.Cell.{Cell}
 use Rattle.model.specs.declared.CellCoordinate.{CellCoordinate}
 use Rattle.model.specs.Sheet.{CellAt, CellColumns, sameCoordinate, cellAt, cellFrom, cellsFrom}
-use Rattle.cells.specs.Columns.{cellsOf, placeFrom, placeOf}
+use Rattle.cells.specs.Columns.{cellsOf, placeFrom, placeOf, entryAt, cellNamed}
 
 module _ (c : CellColumns) where
   pub cells-next : (i n : ℕ) → cellsFrom c i (suc n) ≡ cellFrom c i ∷ cellsFrom c (suc i) n
@@ -64,3 +64,34 @@ module _ (c : CellColumns) where
 
     pub cell-missing : length (c .rows) ≤ i → cellAt (cellsOf c) at ≡ none
     cell-missing h = cell-by-place at 0 (length (c .rows)) ∙ rw (zero-add, ← placed, le-ltb i _ h)
+
+  -- ---- tables of places
+
+  below-named : (place : ℕ) (inside : Bool) → ltb place (length (c .rows)) ≡ inside
+      → cellNamed c (cond inside (suc place) 0) ≡ cellBelow (length (c .rows)) place
+  unfolding cellNamed
+  below-named place true e = refl
+  below-named place false e = rw e
+
+  -- the entry for a coordinate names the cell there
+  pub entry-named : (at : CellCoordinate) → cellNamed c (entryAt (c .rows) (c .cols) at) ≡ cellAt (cellsOf c) at
+  unfolding entryAt
+  entry-named at =
+      below-named (placeOf (c .rows) (c .cols) at) (ltb (placeOf (c .rows) (c .cols) at) (length (c .rows))) refl
+      ∙ sym (cell-by-place at 0 (length (c .rows)) ∙ rw zero-add)
+
+  module _ {entry i : ℕ} (one : i ≡ entry - 1) (some-entry : 0 < entry) where
+    named-suc : suc i ≡ entry
+    named-suc = omega (arith, one, some-entry)
+
+    pub named-found : i < length (c .rows) → cellNamed c entry ≡ some (cellFrom c i .cell)
+    unfolding cellNamed
+    named-found h = rw (← named-suc) (rw (lt-ltb i _ h))
+
+    pub named-missing : length (c .rows) ≤ i → cellNamed c entry ≡ none
+    unfolding cellNamed
+    named-missing h = rw (← named-suc) (rw (le-ltb i _ h))
+
+  pub named-none : {entry : ℕ} → entry ≡ 0 → cellNamed c entry ≡ none
+  unfolding cellNamed
+  named-none e = rw e

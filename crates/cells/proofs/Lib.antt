@@ -1,3 +1,4 @@
 pub mod Laws
+pub mod Standing
 pub mod Search
 pub mod Operands

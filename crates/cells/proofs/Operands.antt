@@ -1,36 +1,65 @@
--- What an operand reads as, by its case, and that a sheet's regions do not count for it. Assumes nothing.
-use mathlib.Core.Path.{_≡_, refl}
+-- What an operand reads as, by its case and by an entry of a table of places, and that a sheet's regions do not count for it.
+-- Assumes nothing.
+use Prim.Native.Nat.{ℕ}
+use mathlib.Core.Path.{_≡_, refl, ap}
+use mathlib.Core.List.{List}
 use lib.Ieee.{Float}
 use Rattle.model.specs.declared.CellCoordinate.{CellCoordinate}
 use Rattle.model.specs.declared.Range.{Range}
 use Rattle.model.specs.declared.A1Reference.{A1Reference}
 use Rattle.model.specs.declared.Referenced.{Referenced}
 use Rattle.model.specs.declared.Reading.{Reading}
+use Rattle.model.specs.declared.Span.{Span}
 use Rattle.model.specs.declared.ConditionalOperand.{ConditionalOperand as Operand}
-use Rattle.model.specs.Sheet.{Sheet}
-use Rattle.model.specs.Readings.{numericAt}
+use Rattle.model.specs.Sheet.{Sheet, CellColumns}
+use Rattle.model.specs.Readings.{numericOf, numericAt}
 use Rattle.model.specs.References.{referenceCoordinate, numericReferenced, literal, resolved}
-use Rattle.cells.specs.Columns.{sheetWith}
+use Rattle.cells.specs.Columns.{cellsOf, entryReferenced, cellNamed, operandNamed, sheetWith}
+use Rattle.cells.proofs.Laws.{entry-named}
 
-module _ (s : Sheet) (range : Range) (target : CellCoordinate) {operand : Operand} where
-  pub resolved-literal : {x : Float} → operand ≡ Operand.Literal x → literal x ≡ resolved s range target operand
-  unfolding resolved
-  resolved-literal e = rw e
+-- ---- by an entry
 
-  pub resolved-unread : operand ≡ Operand.Unread → Reading.Nothing ≡ resolved s range target operand
-  unfolding resolved
-  resolved-unread e = rw e
+module _ (c : CellColumns) {operand : Operand} (entry : ℕ) where
+  pub named-literal : {x : Float} → operand ≡ Operand.Literal x → literal x ≡ operandNamed c operand entry
+  unfolding operandNamed
+  named-literal e = rw e
 
-  module _ {f : A1Reference} (e : operand ≡ Operand.Reference f) where
-    pub resolved-at : {at : CellCoordinate} → referenceCoordinate (s .pool) (s .name) range target f ≡ Referenced.At at
-        → numericAt (s .cells) at ≡ resolved s range target operand
-    unfolding resolved numericReferenced
-    resolved-at n = rw (e, n)
+  pub named-reference : {f : A1Reference} → operand ≡ Operand.Reference f → numericOf (cellNamed c entry) ≡ operandNamed c operand entry
+  unfolding operandNamed
+  named-reference e = rw e
 
-    pub resolved-nowhere : referenceCoordinate (s .pool) (s .name) range target f ≡ Referenced.Nowhere
-        → Reading.Nothing ≡ resolved s range target operand
-    unfolding resolved numericReferenced
-    resolved-nowhere n = rw (e, n)
+  pub named-unread : operand ≡ Operand.Unread → Reading.Nothing ≡ operandNamed c operand entry
+  unfolding operandNamed
+  named-unread e = rw e
+
+-- what the entry for a reference's cell reads as
+module _ (c : CellColumns) (pool : List ℕ) (name : Span) where
+  abbrev sheet : Sheet
+  sheet = sheetWith (cellsOf c) pool name
+
+  referenced-named : (x : Referenced) → numericOf (cellNamed c (entryReferenced (c .rows) (c .cols) x)) ≡ numericReferenced sheet x
+  unfolding entryReferenced numericReferenced numericAt cellNamed
+  referenced-named (Referenced.At at) = ap numericOf (entry-named c at)
+  referenced-named Referenced.Nowhere = refl
+
+  module _ (range : Range) (target : CellCoordinate) where
+    pub meant-reference : (f : A1Reference) (entry : ℕ)
+        → entry ≡ entryReferenced (c .rows) (c .cols) (referenceCoordinate pool name range target f)
+        → operandNamed c (Operand.Reference f) entry ≡ resolved sheet range target (Operand.Reference f)
+    unfolding operandNamed resolved
+    meant-reference f entry e = rw e (referenced-named _)
+
+    -- one that is no reference reads as it does whatever the entry
+    pub meant-literal : (x : Float) (entry : ℕ)
+        → operandNamed c (Operand.Literal x) entry ≡ resolved sheet range target (Operand.Literal x)
+    unfolding operandNamed resolved
+    meant-literal x entry = refl
+
+    pub meant-unread : (entry : ℕ) → operandNamed c Operand.Unread entry ≡ resolved sheet range target Operand.Unread
+    unfolding operandNamed resolved
+    meant-unread entry = refl
+
+-- ---- without regions
 
 module _ (s : Sheet) where
   abbrev bare : Sheet

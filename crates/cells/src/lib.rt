@@ -1,24 +1,20 @@
-// What stands in the cell columns: the cell at an index, and the number, the key and the operand's value at a coordinate.
+// What stands in the cell columns: the cell at an index, the key at a coordinate, and the number and the operand's value by an entry of a
+// table of places.
 use model::Cell;
 use model::CellCoordinate;
 use model::ConditionalOperand;
 use model::ConditionalValueKey;
-use model::Range;
 use model::Reading;
-use model::Referenced;
-use model::Span;
 use readings::key::conditional_value_key;
 use readings::number::cell_value;
 use readings::number::finite_reading;
 use readings::number::numeric_cell_value;
-use references::conditional_reference_coordinate;
 ghost use Prim.Native.Nat.{ℕ};
 ghost use mathlib.Core.Path.{_≡_};
 ghost use mathlib.Core.List.{List};
 ghost use Rattle.model.specs.Sheet.{sameCoordinate, cellFrom};
-ghost use Rattle.model.specs.Readings.{numericAt, keyAt};
-ghost use Rattle.model.specs.References.{resolved};
-ghost use Rattle.cells.specs.Columns.{columns, cellsOf, coordinateAt, placeOf, sheetWith};
+ghost use Rattle.model.specs.Readings.{numericOf, keyAt};
+ghost use Rattle.cells.specs.Columns.{columns, cellsOf, coordinateAt, placeOf, cellNamed, operandNamed};
 
 // The cell at an index, wherever it stands.
 pub fn cell_from(
@@ -72,21 +68,23 @@ pub fn find_cell(rows: &[u32], cols: &[u16], at: CellCoordinate) -> usize
     i
 }
 
-// The number at a coordinate: none where it is blank.
-pub fn numeric_at(
+// The number of the cell that an entry of a table of places names: none where it names no cell. Where the cells stand has no part in it.
+pub fn numeric_named(
     rows: &[u32],
-    cols: &[u16],
     kinds: &[u8],
     wraps: &[u8],
     nums: &[u64],
     ats: &[u32],
     lens: &[u32],
-    at: CellCoordinate,
+    named: u16,
 ) -> Reading
-    ensures { λ r. ⌜ r ≡ numericAt (cellsOf (columns (now (rows .entry)) (now (cols .entry)) (now (kinds .entry)) (now (wraps .entry))
-        (now (nums .entry)) (now (ats .entry)) (now (lens .entry)))) at ⌝ }
+    ensures { λ r. ⌜ ((cols : List ℕ) → r ≡ numericOf (cellNamed (columns (now (rows .entry)) cols (now (kinds .entry)) (now (wraps .entry))
+        (now (nums .entry)) (now (ats .entry)) (now (lens .entry))) named)) ⌝ }
 {
-    let i = find_cell(rows, cols, at);
+    if named == 0 {
+        return Reading::Nothing;
+    }
+    let i = named as usize - 1;
     if i < rows.len() {
         return numeric_cell_value(cell_from(kinds, wraps, nums, ats, lens, i));
     }
@@ -115,32 +113,25 @@ pub fn key_at(
     ConditionalValueKey::Nothing
 }
 
-// Port of resolve_conditional_operand (conditional.rs). A non-finite literal reads as nothing.
-pub fn resolve_conditional_operand(
+// What an operand reads as, by the entry for the cell that it means: the second half of resolve_conditional_operand (conditional.rs). A
+// non-finite literal reads as nothing.
+pub fn operand_named(
     operand: ConditionalOperand,
-    range: Range,
-    target: CellCoordinate,
     rows: &[u32],
-    cols: &[u16],
     kinds: &[u8],
     wraps: &[u8],
     nums: &[u64],
     ats: &[u32],
     lens: &[u32],
-    pool: &[u8],
-    sheet: Span,
+    named: u16,
 ) -> Reading
-    ensures { λ r. ⌜ r ≡ resolved (sheetWith (cellsOf (columns (now (rows .entry)) (now (cols .entry)) (now (kinds .entry))
-        (now (wraps .entry)) (now (nums .entry)) (now (ats .entry)) (now (lens .entry)))) (now (pool .entry)) sheet)
-        range target operand ⌝ }
+    ensures { λ r. ⌜ ((cols : List ℕ) → r ≡ operandNamed (columns (now (rows .entry)) cols (now (kinds .entry)) (now (wraps .entry))
+        (now (nums .entry)) (now (ats .entry)) (now (lens .entry))) operand named) ⌝ }
 {
     match operand {
         ConditionalOperand::Literal(x) => finite_reading(x),
-        ConditionalOperand::Reference(reference) => {
-            match conditional_reference_coordinate(reference, range, target, pool, sheet) {
-                Referenced::At(at) => numeric_at(rows, cols, kinds, wraps, nums, ats, lens, at),
-                Referenced::Nowhere => Reading::Nothing,
-            }
+        ConditionalOperand::Reference(_) => {
+            numeric_named(rows, kinds, wraps, nums, ats, lens, named)
         }
         ConditionalOperand::Unread => Reading::Nothing,
     }

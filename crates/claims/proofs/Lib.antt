@@ -3,3 +3,5 @@ pub mod Held
 pub mod WholeJobsHeld
 pub mod TextsHeld
 pub mod SavingHeld
+pub mod Walks
+pub mod FollowingHeld

@@ -2,11 +2,12 @@
 -- first region that leaves the rule unresolved. Assumes nothing.
 use Prim.Native.Nat.{ℕ, suc, _+_, _-_, _≤_, _<_}
 use mathlib.Core.Path.{_≡_, refl, ap, _∙_}
-use mathlib.Core.Bool.{true, false}
+use mathlib.Core.Bool.{true, false, not}
 use mathlib.Core.List.{List, [], _∷_, _++_, map, append-nil}
 use native.Mathlib.Nat.{zero-add}
 use native.Mathlib.Numerals.{add-one}
 use native.Mathlib.Omega.{arith}
+use lib.Dec.{eqb}
 use lib.ListN.{length, getD, set, replicate, length-append}
 use types.Run.{OneOf, miss}
 use denote.Enum.Declared.{tagOf}
@@ -14,27 +15,28 @@ use Rattle.model.proofs.Outcome.{the-type}
 use Rattle.model.specs.declared.Outcome.{Outcome}
 use Rattle.model.specs.declared.Rule.{Rule}
 use Rattle.model.specs.declared.Test.{Test}
-use Rattle.model.specs.Sheet.{Sheet}
-use Rattle.model.specs.Run.{outcome, asked, isUnresolved}
+use Rattle.model.specs.Sheet.{CellColumns}
+use Rattle.model.specs.Run.{asked, isUnresolved}
 use Rattle.cells.specs.Columns.{coordinateAt}
 use Rattle.judge.specs.declared.Said.{Said}
-use Rattle.judge.specs.Judge.{flagged, outcomesFrom, said, judgedAs, judgedOf}
+use Rattle.judge.specs.Judge.{Tables, entriesAt, outcomeNamed, outcomesNamed, said, judgedAs, judgedOf}
 
 -- ---- what is left
 
-module _ (s : Sheet) (r : Rule) (t : Test) (rows cols flags : List ℕ) (n : ℕ) where
+module _ (c : CellColumns) (pool : List ℕ) (r : Rule) (t : Test) (rows cols flags : List ℕ) (ts : Tables) (n : ℕ) where
   abbrev pub leftFrom : ℕ → List Outcome
-  leftFrom i = outcomesFrom s r t rows cols flags i (n - i)
+  leftFrom i = outcomesNamed c pool r t rows cols flags ts i (n - i)
 
-  pub left-more : (i : ℕ) {o : Outcome} → i < n → o ≡ outcome s r t (coordinateAt rows cols i) (flagged (getD flags i 0))
+  pub left-more : (i : ℕ) {o : Outcome} → i < n
+      → o ≡ outcomeNamed c pool r t (coordinateAt rows cols i) (not (eqb (getD flags i 0) 0)) (entriesAt ts i)
       → leftFrom i ≡ o ∷ leftFrom (i + 1)
-  unfolding outcomesFrom
+  unfolding outcomesNamed
   left-more i {o} h e =
       let more : n - i ≡ suc (n - (i + 1)) = omega arith in
       rw (more, e, add-one i)
 
   pub left-none : (i : ℕ) → n ≤ i → leftFrom i ≡ []
-  unfolding outcomesFrom
+  unfolding outcomesNamed
   left-none i h = let none : n - i ≡ 0 = omega arith in rw none
 
 -- ---- one more outcome in the array

@@ -1,3 +1,4 @@
 pub mod Regions
 pub mod Judging
+pub mod Placed
 pub mod Laws

@@ -1,32 +1,35 @@
 -- What a rule says of one region, by the values that the columns give: a sheet's regions have no part in it, nor has the count of the
 -- region's key where the test is not of duplicates. Assumes nothing.
-use Prim.Native.Nat.{ℕ}
-use mathlib.Core.Path.{_≡_, refl, sym}
-use mathlib.Core.Bool.{Bool, true, false}
+use Prim.Native.Nat.{ℕ, suc, _-_, _≤_, _<_}
+use mathlib.Core.Path.{_≡_, refl, sym, ap, _∙_}
+use mathlib.Core.Bool.{Bool, cond}
 use mathlib.Core.List.{List, [], _∷_}
-use lib.ListN.{replicate}
+use native.Mathlib.Omega.{arith}
+use lib.Dec.{ltb}
+use lib.ListN.{length, replicate}
+use borrow.Author.Tests.{lt-ltb, le-ltb}
 use types.Run.{OneOf, miss}
 use denote.Enum.Declared.{tagOf}
 use Rattle.model.proofs.Test.{the-type}
 use Rattle.model.specs.declared.CellCoordinate.{CellCoordinate}
 use Rattle.model.specs.declared.ConditionalOperand.{ConditionalOperand}
-use Rattle.model.specs.declared.Outcome.{Outcome}
+use Rattle.model.specs.declared.ConditionalValueKey.{ConditionalValueKey as Key}
 use Rattle.model.specs.declared.Range.{Range}
 use Rattle.model.specs.declared.Reading.{Reading}
 use Rattle.model.specs.declared.Rule.{Rule}
 use Rattle.model.specs.declared.Span.{Span}
 use Rattle.model.specs.declared.Test.{Test}
-use Rattle.model.specs.Sheet.{CellAt, CellColumns, inRange}
-use Rattle.model.specs.Readings.{numericAt, keyAt}
+use Rattle.model.specs.Sheet.{CellAt, CellColumns}
+use Rattle.model.specs.Readings.{numericAt, hasKey, keyAt}
 use Rattle.model.specs.References.{resolved}
 use Rattle.model.specs.Rule.{cellsIn, keys, times, verdict}
-use Rattle.model.specs.Run.{RegionState, outcome}
-use Rattle.cells.specs.Columns.{sheetWith}
+use Rattle.cells.specs.Columns.{cellsOf, sheetWith}
 use Rattle.cells.proofs.Operands.{resolved-bare}
-use Rattle.ranges.specs.Turns.{sheetFrom}
+use Rattle.ranges.specs.Turns.{sheetFrom, keyIn}
+use Rattle.keys.proofs.Naming.{none-found}
 use Rattle.verdict.specs.Verdict.{firstOperand, secondOperand, verdictOn}
 use Rattle.verdict.proofs.Laws.{verdict-is}
-use Rattle.judge.specs.Judge.{namesFor, foundFor}
+use Rattle.judge.specs.Judge.{namesFor, foundFor, keyNamed, timesNamed}
 
 -- ---- the count of the region's key
 
@@ -69,6 +72,26 @@ verdictOn-foundFor (Test.AboveAverage below bound fill) imported value first sec
 verdictOn-foundFor (Test.DuplicateValues unique fill) imported value first second found = refl
 verdictOn-foundFor (Test.Expression op p q fill) imported value first second found = refl
 
+-- by the entry for the region's cell
+module _ (pool : List ℕ) (range : Range) (c : CellColumns) {own : ℕ} where
+  pub times-none : own ≡ 0 → timesNamed pool range c own ≡ 0
+  unfolding keyNamed hasKey
+  times-none e = rw e (none-found pool Key.Nothing refl _)
+
+  module _ (some : own ≡ 0 → ⊥) where
+    key-below : {inside : Bool} → ltb (own - 1) (length (c .rows)) ≡ inside
+        → keyNamed pool range c own ≡ cond inside (keyIn pool range c (own - 1)) Key.Nothing
+    unfolding keyNamed
+    key-below e = let more : own ≡ suc (own - 1) = omega (arith, some) in ap (keyNamed pool range c) more ∙ rw e
+
+    pub times-past : length (c .rows) ≤ own - 1 → timesNamed pool range c own ≡ 0
+    unfolding hasKey
+    times-past h = rw (key-below (le-ltb _ _ h)) (none-found pool Key.Nothing refl _)
+
+    pub times-some : own - 1 < length (c .rows)
+        → timesNamed pool range c own ≡ times pool (keyIn pool range c (own - 1)) (keys pool (cellsIn range (cellsOf c)))
+    times-some h = rw (key-below (lt-ltb _ _ h))
+
 module _ (cells : List CellAt) (pool : List ℕ) (name : Span) (regions : List CellCoordinate) where
   -- ---- an operand
 
@@ -88,20 +111,3 @@ module _ (cells : List CellAt) (pool : List ℕ) (name : Span) (regions : List C
       rw (verdict-is (sheetFrom cells regions pool name) r at t)
       (rw (resolved-alike (r .range) at (firstOperand t), resolved-alike (r .range) at (secondOperand t))
       (verdictOn-foundFor t (r .imported) _ _ _ _))
-
-  module _ (r : Rule) (t : Test) (at : CellCoordinate) (state : RegionState) where
-    abbrev outcomeHere : Outcome
-    outcomeHere = outcome (sheetFrom cells regions pool name) r t at state
-
-    pub outcome-stopped : state .stopped ≡ true → outcomeHere ≡ Outcome.Stopped
-    unfolding outcome
-    outcome-stopped h = rw h
-
-    pub outcome-outside : state .stopped ≡ false → inRange (r .range) at ≡ false → outcomeHere ≡ Outcome.Passed
-    unfolding outcome
-    outcome-outside h e = rw (h, e)
-
-    pub outcome-within : state .stopped ≡ false → inRange (r .range) at ≡ true
-        → outcomeHere ≡ verdict (sheetFrom cells regions pool name) r at t
-    unfolding outcome
-    outcome-within h e = rw (h, e)

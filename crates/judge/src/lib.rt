@@ -1,30 +1,32 @@
-// What a rule says of each region: the first of the two phases of a rule. No mark is written here.
-use cells::find_cell;
-use cells::key_at;
-use cells::numeric_at;
-use cells::resolve_conditional_operand;
+// What a rule says of each region, by tables of the places of cells: the first of the two phases of a rule. No mark is written here.
+use cells::numeric_named;
+use cells::operand_named;
 use model::CellCoordinate;
 use model::Outcome;
 use model::Range;
 use model::Reading;
 use model::Rule;
-use model::Span;
 use model::Test;
 use ranges::in_range;
+use ranges::key_in;
 use verdict::first_operand;
 use verdict::second_operand;
-ghost use Prim.Native.Nat.{min};
+ghost use Prim.Native.Nat.{ℕ, min};
 ghost use mathlib.Core.Path.{_≡_};
-ghost use mathlib.Core.Bool.{true, cond};
+ghost use mathlib.Core.Bool.{cond, not};
 ghost use mathlib.Core.List.{List};
+ghost use lib.Dec.{eqb};
 ghost use lib.ListN.{length, getD, replicate};
-ghost use Rattle.model.specs.Sheet.{inRange};
-ghost use Rattle.model.specs.Readings.{keyAt};
-ghost use Rattle.model.specs.Rule.{cellsIn, keys, times, verdict};
-ghost use Rattle.model.specs.Run.{RegionState, outcome};
-ghost use Rattle.cells.specs.Columns.{columns, cellsOf, coordinateAt, sheetWith};
-ghost use Rattle.ranges.specs.Turns.{sheetFrom};
-ghost use Rattle.judge.specs.Judge.{flagged, outcomesFrom, said, judgedAs, judgedOf, namesFor, foundFor, operandsAt};
+ghost use Rattle.cells.specs.Columns.{columns, coordinateAt};
+ghost use Rattle.judge.specs.Judge.{said, judgedAs, judgedOf, namesFor, foundFor, tables, entriesAt, operandsNamed, timesNamed};
+ghost use Rattle.judge.specs.Judge.{verdictNamed, outcomeNamed, outcomesNamed};
+
+// What the tables of places have for a region: the place of its own cell, and of those that the operands mean, plus one; 0 for none.
+struct Entries {
+    own: u16,
+    first: u16,
+    second: u16,
+}
 
 // What the two operands of a test read as.
 struct Operands {
@@ -37,11 +39,11 @@ pub struct Said {
     pub outcome: Outcome,
 }
 
-// The outcomes of the regions, `Stopped` past the last; how many regions are charged; whether the rule is given up, without outcomes.
+// How many regions are charged; whether the rule is given up, without outcomes; the outcomes of the regions, `Stopped` past the last.
 pub struct Judged {
-    pub outcomes: [Said; 1024],
     pub asked: u64,
     pub unresolved: bool,
+    pub outcomes: [Said; 1024],
 }
 
 // The names of the keys in range. Only a duplicate rule pays for them.
@@ -68,11 +70,11 @@ fn names_for(
     }
 }
 
-// How many cells in range have the key of the cell of a region in range, by the names of the keys; of more than 1,024 cells by the keys.
+// How many cells in range have the key of a region's cell, by the names of the keys; of more than 1,024 cells by the keys.
 fn found_in(
     test: Test,
     range: Range,
-    at: CellCoordinate,
+    own: u16,
     rows: &[u32],
     cols: &[u16],
     kinds: &[u8],
@@ -83,82 +85,54 @@ fn found_in(
     pool: &[u8],
     names: &[u64],
 ) -> u64
-    requires { ⌜ inRange range at ≡ true ⌝ }
     requires { ⌜ now names ≡ namesFor test (now pool) range (columns (now rows) (now cols) (now kinds) (now wraps) (now nums)
         (now ats) (now lens)) ⌝ }
-    ensures { λ r. ⌜ r ≡ foundFor test (times (now (pool .entry)) (keyAt (now (pool .entry)) (cellsOf (columns (now (rows .entry))
-        (now (cols .entry)) (now (kinds .entry)) (now (wraps .entry)) (now (nums .entry)) (now (ats .entry)) (now (lens .entry)))) at)
-        (keys (now (pool .entry)) (cellsIn range (cellsOf (columns (now (rows .entry)) (now (cols .entry)) (now (kinds .entry))
-        (now (wraps .entry)) (now (nums .entry)) (now (ats .entry)) (now (lens .entry))))))) ⌝ }
+    ensures { λ r. ⌜ r ≡ foundFor test (timesNamed (now (pool .entry)) range (columns (now (rows .entry))
+        (now (cols .entry)) (now (kinds .entry)) (now (wraps .entry)) (now (nums .entry)) (now (ats .entry)) (now (lens .entry))) own) ⌝ }
 {
-    match test {
-        Test::DuplicateValues { .. } => {
-            if rows.len() <= 1024 {
-                return keys::found_at(names, find_cell(rows, cols, at));
-            }
-            let key = key_at(rows, cols, kinds, wraps, nums, ats, lens, pool, at);
-            ranges::times(key, range, rows, cols, kinds, wraps, nums, ats, lens, pool)
-        }
-        _ => 0,
+    let Test::DuplicateValues { .. } = test else {
+        return 0;
+    };
+    if own == 0 {
+        return 0;
     }
+    let i = own as usize - 1;
+    if rows.len() <= i {
+        return 0;
+    }
+    if rows.len() <= 1024 {
+        return keys::found_at(names, i);
+    }
+    let key = key_in(range, rows, cols, kinds, wraps, nums, ats, lens, pool, i);
+    ranges::times(key, range, rows, cols, kinds, wraps, nums, ats, lens, pool)
 }
 
-// What the operands of the test read as from a region.
-fn operands_at(
+// What the operands of the test read as from a region. Where the cells stand has no part in it.
+fn operands_named(
     test: Test,
-    range: Range,
-    at: CellCoordinate,
+    named: Entries,
     rows: &[u32],
-    cols: &[u16],
     kinds: &[u8],
     wraps: &[u8],
     nums: &[u64],
     ats: &[u32],
     lens: &[u32],
-    pool: &[u8],
-    sheet: Span,
 ) -> Operands
-    ensures { λ r. ⌜ r ≡ operandsAt (sheetWith (cellsOf (columns (now (rows .entry)) (now (cols .entry)) (now (kinds .entry))
-        (now (wraps .entry)) (now (nums .entry)) (now (ats .entry)) (now (lens .entry)))) (now (pool .entry)) sheet) test range at ⌝ }
+    ensures { λ r. ⌜ ((cols : List ℕ) → r ≡ operandsNamed (columns (now (rows .entry)) cols (now (kinds .entry)) (now (wraps .entry))
+        (now (nums .entry)) (now (ats .entry)) (now (lens .entry))) test named) ⌝ }
 {
     let one = first_operand(test);
-    let first = resolve_conditional_operand(
-        one,
-        range,
-        at,
-        rows,
-        cols,
-        kinds,
-        wraps,
-        nums,
-        ats,
-        lens,
-        pool,
-        sheet,
-    );
+    let first = operand_named(one, rows, kinds, wraps, nums, ats, lens, named.first);
     let other = second_operand(test);
-    let second = resolve_conditional_operand(
-        other,
-        range,
-        at,
-        rows,
-        cols,
-        kinds,
-        wraps,
-        nums,
-        ats,
-        lens,
-        pool,
-        sheet,
-    );
+    let second = operand_named(other, rows, kinds, wraps, nums, ats, lens, named.second);
     Operands { first, second }
 }
 
-// What a rule says of a region in range, whatever the sheet's regions.
-fn verdict_at(
+// What a rule says of a region in range.
+fn verdict_named(
     rule: Rule,
     test: Test,
-    at: CellCoordinate,
+    named: Entries,
     rows: &[u32],
     cols: &[u16],
     kinds: &[u8],
@@ -168,36 +142,20 @@ fn verdict_at(
     lens: &[u32],
     pool: &[u8],
     names: &[u64],
-    sheet: Span,
 ) -> Outcome
-    requires { ⌜ inRange (rule .range) at ≡ true ⌝ }
     requires { ⌜ now names ≡ namesFor test (now pool) (rule .range) (columns (now rows) (now cols) (now kinds) (now wraps) (now nums)
         (now ats) (now lens)) ⌝ }
-    ensures { λ r. ⌜ ((regions : List CellCoordinate) → r ≡ verdict (sheetFrom (cellsOf (columns (now (rows .entry)) (now (cols .entry))
-        (now (kinds .entry)) (now (wraps .entry)) (now (nums .entry)) (now (ats .entry)) (now (lens .entry)))) regions
-        (now (pool .entry)) sheet) rule at test) ⌝ }
+    ensures { λ r. ⌜ r ≡ verdictNamed (columns (now (rows .entry)) (now (cols .entry)) (now (kinds .entry)) (now (wraps .entry))
+        (now (nums .entry)) (now (ats .entry)) (now (lens .entry))) (now (pool .entry)) rule test named ⌝ }
 {
     let range = rule.range;
-    let operands = operands_at(
-        test,
-        range,
-        at,
-        rows,
-        cols,
-        kinds,
-        wraps,
-        nums,
-        ats,
-        lens,
-        pool,
-        sheet,
-    );
+    let operands = operands_named(test, named, rows, kinds, wraps, nums, ats, lens);
     let first = operands.first;
     let second = operands.second;
     let found = found_in(
         test,
         range,
-        at,
+        named.own,
         rows,
         cols,
         kinds,
@@ -208,16 +166,17 @@ fn verdict_at(
         pool,
         names,
     );
-    let value = numeric_at(rows, cols, kinds, wraps, nums, ats, lens, at);
+    let value = numeric_named(rows, kinds, wraps, nums, ats, lens, named.own);
     verdict::verdict(test, rule.imported, value, first, second, found)
 }
 
-// What a rule says of a region, whatever the sheet's regions and the region's bar.
+// What a rule says of a region.
 fn region_outcome(
     rule: Rule,
     test: Test,
     stopped: bool,
     at: CellCoordinate,
+    named: Entries,
     rows: &[u32],
     cols: &[u16],
     kinds: &[u8],
@@ -227,13 +186,11 @@ fn region_outcome(
     lens: &[u32],
     pool: &[u8],
     names: &[u64],
-    sheet: Span,
 ) -> Outcome
     requires { ⌜ now names ≡ namesFor test (now pool) (rule .range) (columns (now rows) (now cols) (now kinds) (now wraps) (now nums)
         (now ats) (now lens)) ⌝ }
-    ensures { λ r. ⌜ ((regions : List CellCoordinate) (state : RegionState) → state .stopped ≡ stopped → r ≡ outcome (sheetFrom
-        (cellsOf (columns (now (rows .entry)) (now (cols .entry)) (now (kinds .entry)) (now (wraps .entry))
-        (now (nums .entry)) (now (ats .entry)) (now (lens .entry)))) regions (now (pool .entry)) sheet) rule test at state) ⌝ }
+    ensures { λ r. ⌜ r ≡ outcomeNamed (columns (now (rows .entry)) (now (cols .entry)) (now (kinds .entry)) (now (wraps .entry))
+        (now (nums .entry)) (now (ats .entry)) (now (lens .entry))) (now (pool .entry)) rule test at stopped named ⌝ }
 {
     if stopped {
         return Outcome::Stopped;
@@ -242,10 +199,10 @@ fn region_outcome(
     if !in_range(range, at) {
         return Outcome::Passed;
     }
-    verdict_at(
+    verdict_named(
         rule,
         test,
-        at,
+        named,
         rows,
         cols,
         kinds,
@@ -255,15 +212,28 @@ fn region_outcome(
         lens,
         pool,
         names,
-        sheet,
     )
 }
 
-// The same of the region at an index, with its stop flag.
+// What the tables have for the region at an index.
+fn entries_at(places: &[u16], firsts: &[u16], seconds: &[u16], i: usize) -> Entries
+    ensures { λ r. ⌜ r ≡ entriesAt (tables (now (places .entry)) (now (firsts .entry)) (now (seconds .entry))) i ⌝ }
+{
+    Entries {
+        own: lent::at_u16(places, i),
+        first: lent::at_u16(firsts, i),
+        second: lent::at_u16(seconds, i),
+    }
+}
+
+// What a rule says of the region at an index, with its stop flag.
 fn outcome_at(
     rule: Rule,
     test: Test,
     stopped: &[u8],
+    places: &[u16],
+    firsts: &[u16],
+    seconds: &[u16],
     rows: &[u32],
     cols: &[u16],
     kinds: &[u8],
@@ -275,26 +245,27 @@ fn outcome_at(
     region_cols: &[u16],
     pool: &[u8],
     names: &[u64],
-    sheet: Span,
     i: usize,
 ) -> Outcome
     requires { ⌜ now names ≡ namesFor test (now pool) (rule .range) (columns (now rows) (now cols) (now kinds) (now wraps) (now nums)
         (now ats) (now lens)) ⌝ }
-    ensures { λ r. ⌜ ((regions : List CellCoordinate) → r ≡ outcome (sheetFrom (cellsOf (columns (now (rows .entry)) (now (cols .entry))
-        (now (kinds .entry)) (now (wraps .entry)) (now (nums .entry)) (now (ats .entry)) (now (lens .entry)))) regions
-        (now (pool .entry)) sheet) rule test (coordinateAt (now («region_rows» .entry)) (now («region_cols» .entry)) i)
-        (flagged (getD (now (stopped .entry)) i 0))) ⌝ }
+    ensures { λ r. ⌜ r ≡ outcomeNamed (columns (now (rows .entry)) (now (cols .entry)) (now (kinds .entry)) (now (wraps .entry))
+        (now (nums .entry)) (now (ats .entry)) (now (lens .entry))) (now (pool .entry)) rule test
+        (coordinateAt (now («region_rows» .entry)) (now («region_cols» .entry)) i) (not (eqb (getD (now (stopped .entry)) i 0) 0))
+        (entriesAt (tables (now (places .entry)) (now (firsts .entry)) (now (seconds .entry))) i) ⌝ }
 {
     let at = CellCoordinate {
         row: lent::at_u32(region_rows, i),
         col: lent::at_u16(region_cols, i),
     };
     let flag = lent::at_u8(stopped, i);
+    let named = entries_at(places, firsts, seconds, i);
     region_outcome(
         rule,
         test,
         flag != 0,
         at,
+        named,
         rows,
         cols,
         kinds,
@@ -304,7 +275,6 @@ fn outcome_at(
         lens,
         pool,
         names,
-        sheet,
     )
 }
 
@@ -354,6 +324,9 @@ fn judge_regions(
     rule: Rule,
     test: Test,
     stopped: &[u8],
+    places: &[u16],
+    firsts: &[u16],
+    seconds: &[u16],
     rows: &[u32],
     cols: &[u16],
     kinds: &[u8],
@@ -365,14 +338,13 @@ fn judge_regions(
     region_cols: &[u16],
     pool: &[u8],
     names: &[u64],
-    sheet: Span,
 ) -> Judged
     requires { ⌜ now names ≡ namesFor test (now pool) (rule .range) (columns (now rows) (now cols) (now kinds) (now wraps) (now nums)
         (now ats) (now lens)) ⌝ }
-    ensures { λ r. ⌜ ((regions : List CellCoordinate) → r ≡ judgedOf (outcomesFrom (sheetFrom (cellsOf (columns (now (rows .entry))
-        (now (cols .entry)) (now (kinds .entry)) (now (wraps .entry)) (now (nums .entry)) (now (ats .entry)) (now (lens .entry)))) regions
-        (now (pool .entry)) sheet) rule test (now («region_rows» .entry)) (now («region_cols» .entry)) (now (stopped .entry)) 0
-        (min (length (now («region_rows» .entry))) 1024))) ⌝ }
+    ensures { λ r. ⌜ r ≡ judgedOf (outcomesNamed (columns (now (rows .entry)) (now (cols .entry)) (now (kinds .entry)) (now (wraps .entry))
+        (now (nums .entry)) (now (ats .entry)) (now (lens .entry))) (now (pool .entry)) rule test (now («region_rows» .entry))
+        (now («region_cols» .entry)) (now (stopped .entry)) (tables (now (places .entry)) (now (firsts .entry)) (now (seconds .entry))) 0
+        (min (length (now («region_rows» .entry))) 1024)) ⌝ }
 {
     let n = region_count(region_rows);
     let mut outcomes = nothing_said();
@@ -383,6 +355,9 @@ fn judge_regions(
             rule,
             test,
             stopped,
+            places,
+            firsts,
+            seconds,
             rows,
             cols,
             kinds,
@@ -394,31 +369,32 @@ fn judge_regions(
             region_cols,
             pool,
             names,
-            sheet,
             i,
         );
         match outcome {
             Outcome::Stopped => {
                 i += 1;
-                continue;
             }
             Outcome::Unresolved => return judged_as(outcomes, asked + 1, true),
             _ => {
                 outcomes[i] = Said { outcome };
                 asked += 1;
                 i += 1;
-                continue;
             }
         }
     }
     judged_as(outcomes, asked, false)
 }
 
-// What a rule says of each region, with the names of the keys worked out once.
+// What a rule says of each region, with the names of the keys worked out once. The cell of a region, and those that the operands mean from
+// it, are the ones that the tables of places name.
 pub fn judge(
     rule: Rule,
     test: Test,
     stopped: &[u8],
+    places: &[u16],
+    firsts: &[u16],
+    seconds: &[u16],
     rows: &[u32],
     cols: &[u16],
     kinds: &[u8],
@@ -429,12 +405,11 @@ pub fn judge(
     region_rows: &[u32],
     region_cols: &[u16],
     pool: &[u8],
-    sheet: Span,
 ) -> Judged
-    ensures { λ r. ⌜ ((regions : List CellCoordinate) → r ≡ judgedOf (outcomesFrom (sheetFrom (cellsOf (columns (now (rows .entry))
-        (now (cols .entry)) (now (kinds .entry)) (now (wraps .entry)) (now (nums .entry)) (now (ats .entry)) (now (lens .entry)))) regions
-        (now (pool .entry)) sheet) rule test (now («region_rows» .entry)) (now («region_cols» .entry)) (now (stopped .entry)) 0
-        (min (length (now («region_rows» .entry))) 1024))) ⌝ }
+    ensures { λ r. ⌜ r ≡ judgedOf (outcomesNamed (columns (now (rows .entry)) (now (cols .entry)) (now (kinds .entry)) (now (wraps .entry))
+        (now (nums .entry)) (now (ats .entry)) (now (lens .entry))) (now (pool .entry)) rule test (now («region_rows» .entry))
+        (now («region_cols» .entry)) (now (stopped .entry)) (tables (now (places .entry)) (now (firsts .entry)) (now (seconds .entry))) 0
+        (min (length (now («region_rows» .entry))) 1024)) ⌝ }
 {
     let range = rule.range;
     let names = names_for(test, range, rows, cols, kinds, wraps, nums, ats, lens, pool);
@@ -442,6 +417,9 @@ pub fn judge(
         rule,
         test,
         stopped,
+        places,
+        firsts,
+        seconds,
         rows,
         cols,
         kinds,
@@ -453,6 +431,5 @@ pub fn judge(
         region_cols,
         pool,
         &names,
-        sheet,
     )
 }

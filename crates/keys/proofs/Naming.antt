@@ -114,7 +114,7 @@ module _ (pool : List ℕ) where
   unfolding nameOf
   name-none ks k h = rw h
 
-  none-found : (k : Key) → hasKey k ≡ false → (ls : List Key) → times pool k ls ≡ 0
+  pub none-found : (k : Key) → hasKey k ≡ false → (ls : List Key) → times pool k ls ≡ 0
   unfolding times sameKey hasKey
   none-found (Key.Number a) h ls = differ (sym h)
   none-found (Key.Text t) h ls = differ (sym h)

@@ -18,6 +18,7 @@ use Rattle.model.specs.Job.{Job, rises, fallsAt, firstFall, refuseAt, firstOf, 
 use Rattle.laws.proofs.Each.{Throughout}
 use Rattle.laws.proofs.First.{firstFrom-none}
 use Rattle.laws.proofs.Covered.{keyedAt, and-true}
+use Rattle.laws.proofs.Rising.{Before, rises-before, before-trans, rises-at}
 
 -- no cell of the list stands at the coordinate
 abbrev pub Free : CellCoordinate → List CellAt → Type 0
@@ -99,26 +100,6 @@ keyed-is s row col apart = (
 
 -- ---- rising cells stand apart
 
-Before : CellCoordinate → CellCoordinate → Type 0
-Before p q = (p .row < q .row) ⊎ ((p .row ≡ q .row) × (p .col < q .col))
-
-rises-before : (p q : CellCoordinate) → rises (p .row) (p .col) (q .row) (q .col) ≡ true → Before p q
-unfolding rises Before
-rises-before p q e = go (ltb (p .row) (q .row)) refl (eqb (p .row) (q .row)) refl e
-  where
-    go : (x : Bool) → ltb (p .row) (q .row) ≡ x → (y : Bool) → eqb (p .row) (q .row) ≡ y → x || (y && ltb (p .col) (q .col)) ≡ true
-        → (p .row < q .row) ⊎ ((p .row ≡ q .row) × (p .col < q .col))
-    go true l y m e = inl (ltb-true (p .row) (q .row) l)
-    go false l true m e = inr (eqb-true (p .row) (q .row) m, ltb-true (p .col) (q .col) e)
-    go false l false m e = absurd (false≢true e)
-
-before-trans : (p q r : CellCoordinate) → Before p q → Before q r → Before p r
-unfolding Before
-before-trans p q r (inl a) (inl b) = inl (omega arith)
-before-trans p q r (inl a) (inr b) = inl (omega arith)
-before-trans p q r (inr a) (inl b) = inl (omega arith)
-before-trans p q r (inr a) (inr b) = inr (omega arith)
-
 before-other : (p q : CellCoordinate) → Before p q → sameCoordinate q p ≡ false
 unfolding Before sameCoordinate
 before-other p q (inl a) = rw (ne-eqb (q .row) (p .row) (omega arith))
@@ -147,11 +128,6 @@ unfolding refuseAt
 refuseAt-none j number none e = refl
 refuseAt-none j number (some place) e = cc
 
-rises-at : (rows cols : List ℕ) (i : ℕ) → fallsAt rows cols (suc i) ≡ false
-    → rises (getD rows i 0) (getD cols i 0) (getD rows (suc i) 0) (getD cols (suc i) 0) ≡ true
-unfolding fallsAt
-rises-at rows cols i e = let back : suc i - 1 ≡ i = omega arith in not-false _ (rw back at e)
-
 cells-rising : (c : CellColumns) (i n : ℕ) → Throughout (fallsAt (c .rows) (c .cols)) false (suc i) (i + n) → Rising (cellsFrom c i n)
 unfolding cellsFrom cellFrom
 cells-rising c i zero h = tt
@@ -161,10 +137,17 @@ cells-rising c i (suc (suc n)) h = (
   cells-rising c (suc i) (suc n) (λ k a b. h k (omega arith) (omega arith)),
 )
 
+-- the columns of a well-formed job rise
+pub columns-rise : (j : Job) → malformed j ≡ none
+    → (firstFall (j .cells .rows) (j .cells .cols) ≡ none) × (firstFall (j .regionRows) (j .regionCols) ≡ none)
+unfolding malformed
+columns-rise j e =
+    let later = firstOf-none _ _ (firstOf-none _ _ (firstOf-none _ _ (firstOf-none _ _ e .1) .1) .1) .1 in
+    (refuseAt-none j 4 _ (firstOf-none _ _ later .0), refuseAt-none j 4 _ (firstOf-none _ _ (firstOf-none _ _ later .1) .0))
+
 -- the cells of a well-formed job rise
 pub sheet-rising : (j : Job) → malformed j ≡ none → Rising (sheetOf j .cells)
-unfolding malformed sheetOf firstFall
+unfolding sheetOf firstFall
 sheet-rising j e =
-    let later = firstOf-none _ _ (firstOf-none _ _ (firstOf-none _ _ (firstOf-none _ _ e .1) .1) .1) .1 in
-    let rises = firstFrom-none (fallsAt (j .cells .rows) (j .cells .cols)) 1 _ .0 (refuseAt-none j 4 _ (firstOf-none _ _ later .0)) in
+    let rises = firstFrom-none (fallsAt (j .cells .rows) (j .cells .cols)) 1 _ .0 (columns-rise j e .0) in
     cells-rising (j .cells) 0 _ (λ k a b. rises k a (omega arith))

@@ -8,6 +8,7 @@ pub mod Split
 pub mod First
 pub mod Each
 pub mod Covered
+pub mod Rising
 pub mod Apart
 pub mod Counted
 pub mod Spending

@@ -18,7 +18,7 @@ use Rattle.ranges.specs.Turns.{sheetFrom}
 use Rattle.plans.specs.Plans.{isBarTest, testsBar}
 use Rattle.judge.specs.Judge.{judgedOf, outcomesFrom}
 use Rattle.steps.specs.declared.Step.{Step}
-use Rattle.steps.specs.Step.{fitsIn, judgedIn, saidStep, stepOf}
+use Rattle.steps.specs.Step.{fitsIn, judgedIn, saidStep, stepWith, stepOf}
 use Rattle.steps.proofs.Judging.{outcomesIn}
 
 -- 7 and 9 down the first column, a region for each
@@ -42,24 +42,24 @@ abbrev second : List Outcome
 second = Outcome.Passed ∷ filled false red ∷ Outcome.Stopped ∷ []
 
 short : shown (step 100 1) ≡ (false, (Charged.Within (counter 5), (none, (0, 0))))
-unfolding jobs samples testsBar isBarTest outcomesFrom judgedOf judgedIn saidStep stepOf
+unfolding jobs samples testsBar isBarTest outcomesFrom judgedOf judgedIn saidStep stepWith
 short = refl
 
 exact : shown (step 100 2) ≡ (true, (Charged.Within (counter 9), (second, (0, 0))))
-unfolding jobs samples testsBar isBarTest outcomesFrom judgedOf judgedIn saidStep stepOf
+unfolding jobs samples testsBar isBarTest outcomesFrom judgedOf judgedIn saidStep stepWith
 exact = refl
 
 longer : shown (step 100 3) ≡ (true, (Charged.Within (counter 9), (second, (0, 0))))
-unfolding jobs samples testsBar isBarTest outcomesFrom judgedOf judgedIn saidStep stepOf
+unfolding jobs samples testsBar isBarTest outcomesFrom judgedOf judgedIn saidStep stepWith
 longer = refl
 
 -- refused for the second cell, and for the second region
 refused-ahead : shown (step 6 2) ≡ (true, (Charged.LimitExceeded (counter 7) 7, (none, (0, 0))))
-unfolding jobs samples testsBar isBarTest outcomesFrom judgedOf judgedIn saidStep stepOf
+unfolding jobs samples testsBar isBarTest outcomesFrom judgedOf judgedIn saidStep stepWith
 refused-ahead = refl
 
 refused-region : shown (step 8 2) ≡ (true, (Charged.LimitExceeded (counter 9) 9, (none, (0, 0))))
-unfolding jobs samples testsBar isBarTest outcomesFrom judgedOf judgedIn saidStep stepOf
+unfolding jobs samples testsBar isBarTest outcomesFrom judgedOf judgedIn saidStep stepWith
 refused-region = refl
 
 -- the regions: 1,024 fit, and one more does not

@@ -7,10 +7,7 @@ use mathlib.Core.Bool.{Bool, true, false, cond, _&&_, false≢true}
 use mathlib.Core.List.{List, _++_, map}
 use lib.Dec.{leb}
 use lib.ListN.{length, replicate}
-use types.Run.{OneOf, miss}
-use denote.Enum.Declared.{tagOf}
 use borrow.Author.Tests.{leb-true, le-leb}
-use Rattle.charging.proofs.Charged.{the-type}
 use Rattle.charging.specs.declared.Counter.{Counter}
 use Rattle.charging.specs.declared.Charged.{Charged}
 use Rattle.charging.specs.Charge.{one, andThen, spend}
@@ -30,9 +27,10 @@ use Rattle.judge.specs.declared.Said.{Said}
 use Rattle.judge.specs.declared.Judged.{Judged}
 use Rattle.judge.proofs.Laws.{StoppedBy}
 use Rattle.steps.specs.declared.Step.{Step}
-use Rattle.steps.specs.Step.{aheadOfRegions, judgedIn, emptyStep, refusedStep, saidStep, stepFrom, stepBy, fitsIn, stepOf}
-use Rattle.steps.proofs.Charges.{spend-in-two, refusals, refused-after}
+use Rattle.steps.specs.Step.{aheadOfRegions, judgedIn, emptyStep, refusedStep, saidStep, stepBy, fitsIn, stepWith, stepOf}
+use Rattle.steps.proofs.Charges.{spend-in-two}
 use Rattle.steps.proofs.Judging.{Judges, judges}
+use Rattle.steps.proofs.Saying.{said-charged, Told, said-within, said-once, by-alike}
 
 -- ---- statements
 
@@ -52,61 +50,6 @@ pub record Stepped (s : Sheet) (i : IndexedRule) (given : List RegionState) (lim
   pub charged : r .charged ≡ andThen before (λ c. spend limit c (step s i given .charges))
   pub says : (c : Counter) → r .charged ≡ Charged.Within c → Says s i given r
 
--- ---- by what the charges came to
-
-cond-few : (b : Bool) → cond b 1 0 ≤ 1
-cond-few true = omega arith
-cond-few false = omega arith
-
-module _ (bar : Bool) (j : Judged) where
-  said-charged : (x : Charged) → saidStep bar j x .charged ≡ x
-  unfolding saidStep
-  said-charged (Charged.Within c) = refl
-  said-charged (Charged.LimitExceeded c actual) = refl
-  said-charged (Charged.CoordinateOverflow c) = refl
-
-  pub said-accepted : (x : Charged) (c : Counter) → x ≡ Charged.Within c
-      → record { fits = true; charged = x; outcomes = j .outcomes; deferred = cond (j .unresolved) 1 0; simplified = cond bar 1 0 }
-      ≡ saidStep bar j x
-  unfolding saidStep
-  said-accepted x c e = rw e
-
-  pub said-refused : (x : Charged) → OneOf refusals (tagOf the-type x) → refusedStep x ≡ saidStep bar j x
-  unfolding saidStep
-  said-refused (Charged.Within c) h = absurd (miss refusals 0 tt h)
-  said-refused (Charged.LimitExceeded c actual) h = refl
-  said-refused (Charged.CoordinateOverflow c) h = refl
-
-  -- refused ahead of the regions
-  pub from-refused : (limit : ℕ) (x : Charged) → OneOf refusals (tagOf the-type x) → refusedStep x ≡ stepFrom limit bar j x
-  from-refused limit x h = said-refused x h ∙ ap (saidStep bar j) (refused-after x h _)
-
-  record Told (r : Step) : Type 0 where
-    outcomes : r .outcomes ≡ j .outcomes
-    deferred : r .deferred ≡ cond (j .unresolved) 1 0
-    simplified : r .simplified ≡ cond bar 1 0
-
-  -- outcomes are told where all charges are accepted
-  said-within : (x : Charged) (c : Counter) → saidStep bar j x .charged ≡ Charged.Within c → Told (saidStep bar j x)
-  unfolding saidStep
-  said-within (Charged.Within n) c h = record { outcomes = refl; deferred = refl; simplified = refl }
-  said-within (Charged.LimitExceeded n actual) c h = absurd (let no : _≡_ {A = ℕ} 0 1 = cc in omega arith)
-  said-within (Charged.CoordinateOverflow n) c h = absurd (let no : _≡_ {A = ℕ} 0 1 = cc in omega arith)
-
-  said-once : (x : Charged) → (saidStep bar j x .deferred ≤ 1) × (saidStep bar j x .simplified ≤ 1)
-  unfolding saidStep
-  said-once (Charged.Within c) = (cond-few (j .unresolved), cond-few bar)
-  said-once (Charged.LimitExceeded c actual) = (omega arith, omega arith)
-  said-once (Charged.CoordinateOverflow c) = (omega arith, omega arith)
-
--- the plan counts only where the charges ahead of the regions are accepted
-by-alike : (s : Sheet) (r : Rule) (limit : ℕ) (rows cols flags : List ℕ) (p q : Plan) (ch : Charged)
-    → ((c : Counter) → ch ≡ Charged.Within c → p ≡ q) → stepBy s r limit rows cols flags p ch ≡ stepBy s r limit rows cols flags q ch
-unfolding saidStep andThen
-by-alike s r limit rows cols flags p q (Charged.Within c) h = rw (h c refl)
-by-alike s r limit rows cols flags p q (Charged.LimitExceeded c actual) h = refl
-by-alike s r limit rows cols flags p q (Charged.CoordinateOverflow c) h = refl
-
 -- ---- by whether it fits
 
 pub fits-cells : (cells regions room : ℕ) → fitsIn cells regions room ≡ true → cells ≤ room
@@ -121,31 +64,30 @@ pub fits-so : (c : CellColumns) (regions room : ℕ) (x b : Bool) → x ≡ fits
     → fitsIn (length (cellsOf c)) regions room ≡ b
 fits-so c regions room x b e h = ap (λ (n : ℕ). fitsIn n regions room) (cells-length c 0 (length (c .rows))) ∙ sym e ∙ h
 
-module _ (s : Sheet) (r : Rule) (charged : Charged) (limit : ℕ) (rows cols flags : List ℕ) (room : ℕ) where
+-- however a plan is judged
+module _ (judge : Plan → Judged) (s : Sheet) (r : Rule) (charged : Charged) (limit regions room : ℕ) where
   abbrev fits : Bool
-  fits = fitsIn (length (s .cells)) (length rows) room
+  fits = fitsIn (length (s .cells)) regions room
 
   pub step-by-parts : (ch : Charged) (p : Plan) → fits ≡ true → ch ≡ aheadOfRegions s r limit charged
       → ((c : Counter) → ch ≡ Charged.Within c → p ≡ plan s r)
-      → stepBy s r limit rows cols flags p ch ≡ stepOf s r charged limit rows cols flags room
-  unfolding stepOf
+      → stepBy limit judge p ch ≡ stepWith judge s r charged limit regions room
+  unfolding stepWith
   step-by-parts ch p f is planned =
-      rw f
-      (by-alike s r limit rows cols flags p (plan s r) ch planned
-      ∙ ap (λ (x : Charged). stepBy s r limit rows cols flags (plan s r) x) is)
+      rw f (by-alike limit judge p (plan s r) ch planned ∙ ap (λ (x : Charged). stepBy limit judge (plan s r) x) is)
 
-  pub step-unfit : fits ≡ false → emptyStep false charged ≡ stepOf s r charged limit rows cols flags room
-  unfolding stepOf
+  pub step-unfit : fits ≡ false → emptyStep false charged ≡ stepWith judge s r charged limit regions room
+  unfolding stepWith
   step-unfit f = rw f
 
   -- a rule counts once
-  pub step-once : (stepOf s r charged limit rows cols flags room .deferred ≤ 1)
-      × (stepOf s r charged limit rows cols flags room .simplified ≤ 1)
-  unfolding stepOf
+  pub step-once : (stepWith judge s r charged limit regions room .deferred ≤ 1)
+      × (stepWith judge s r charged limit regions room .simplified ≤ 1)
+  unfolding stepWith
   step-once = go fits
     where
-      go : (b : Bool) → let x = cond b (stepBy s r limit rows cols flags (plan s r) (aheadOfRegions s r limit charged))
-          (emptyStep false charged) in (x .deferred ≤ 1) × (x .simplified ≤ 1)
+      go : (b : Bool) → let x = cond b (stepBy limit judge (plan s r) (aheadOfRegions s r limit charged)) (emptyStep false charged) in
+          (x .deferred ≤ 1) × (x .simplified ≤ 1)
       go true = said-once _ _ _
       go false = (omega arith, omega arith)
 
@@ -154,16 +96,16 @@ refused-or-unfit true x = refl
 refused-or-unfit false x = refl
 
 -- nothing more is said or charged once a charge was refused
-module _ (s : Sheet) (r : Rule) (limit : ℕ) (rows cols flags : List ℕ) (room : ℕ) where
+module _ (judge : Plan → Judged) (s : Sheet) (r : Rule) (limit regions room : ℕ) where
   pub step-exceeded : (c : Counter) (actual : ℕ) → let x = Charged.LimitExceeded c actual in
-      stepOf s r x limit rows cols flags room ≡ emptyStep (fitsIn (length (s .cells)) (length rows) room) x
-  unfolding stepOf saidStep andThen
-  step-exceeded c actual = refused-or-unfit (fitsIn (length (s .cells)) (length rows) room) (Charged.LimitExceeded c actual)
+      stepWith judge s r x limit regions room ≡ emptyStep (fitsIn (length (s .cells)) regions room) x
+  unfolding stepWith saidStep andThen
+  step-exceeded c actual = refused-or-unfit (fitsIn (length (s .cells)) regions room) (Charged.LimitExceeded c actual)
 
   pub step-overflowed : (c : Counter) → let x = Charged.CoordinateOverflow c in
-      stepOf s r x limit rows cols flags room ≡ emptyStep (fitsIn (length (s .cells)) (length rows) room) x
-  unfolding stepOf saidStep andThen
-  step-overflowed c = refused-or-unfit (fitsIn (length (s .cells)) (length rows) room) (Charged.CoordinateOverflow c)
+      stepWith judge s r x limit regions room ≡ emptyStep (fitsIn (length (s .cells)) regions room) x
+  unfolding stepWith saidStep andThen
+  step-overflowed c = refused-or-unfit (fitsIn (length (s .cells)) regions room) (Charged.CoordinateOverflow c)
 
 -- ---- the step
 
@@ -178,7 +120,7 @@ module _ (s : Sheet) (i : IndexedRule) (rows cols flags : List ℕ) (few : lengt
   judges-step = judges s i rows cols flags few regions (cond (isSimplified s (i .rule)) 1 0) given stopped (plan s (i .rule))
 
   abbrev stepHere : Step
-  stepHere = stepBy s (i .rule) limit rows cols flags (plan s (i .rule)) (aheadOfRegions s (i .rule) limit before)
+  stepHere = stepBy limit (judgedIn s (i .rule) rows cols flags) (plan s (i .rule)) (aheadOfRegions s (i .rule) limit before)
 
   says-step : Told (testsBar (plan s (i .rule))) judged stepHere → Says s i given stepHere
   says-step t =
@@ -210,7 +152,7 @@ pub step-stepped : (c : CellColumns) (rows cols flags pool : List ℕ) (name : S
     → length rows ≤ 1024 → length (c .rows) ≤ room → StoppedBy flags 0 (length rows) given
     → r ≡ stepOf (sheetFrom (cellsOf c) (regionsFrom rows cols 0 (length rows)) pool name) (i .rule) before limit rows cols flags room
     → Stepped (sheetFrom (cellsOf c) (regionsFrom rows cols 0 (length rows)) pool name) i given limit before r
-unfolding stepOf
+unfolding stepWith
 step-stepped c rows cols flags pool name room i given limit before r few enough stopped is =
     let s = sheetFrom (cellsOf c) (regionsFrom rows cols 0 (length rows)) pool name in
     rw (

@@ -11,7 +11,6 @@ use judge::Said;
 use model::Outcome;
 use model::Plan;
 use model::Rule;
-use model::Span;
 use model::Test;
 ghost use mathlib.Core.Path.{_≡_};
 ghost use mathlib.Core.Bool.{cond};
@@ -19,12 +18,13 @@ ghost use mathlib.Core.List.{List};
 ghost use lib.ListN.{length, replicate};
 ghost use Rattle.charging.specs.declared.Charged.{Charged};
 ghost use Rattle.model.specs.declared.CellCoordinate.{CellCoordinate};
+ghost use Rattle.model.specs.declared.Span.{Span};
 ghost use Rattle.model.specs.Ratio.{zeroF};
 ghost use Rattle.cells.specs.Columns.{columns, cellsOf};
 ghost use Rattle.ranges.specs.Turns.{sheetFrom};
 ghost use Rattle.plans.specs.Plans.{isBarTest, testsBar};
-ghost use Rattle.judge.specs.Judge.{judgedAs};
-ghost use Rattle.steps.specs.Step.{nothingSaid, judgedIn, emptyStep, stepFrom, stepBy, fitsIn, stepOf};
+ghost use Rattle.judge.specs.Judge.{judgedAs, tables};
+ghost use Rattle.steps.specs.Step.{nothingSaid, judgedNamed, emptyStep, stepFrom, stepBy, fitsIn, stepNamed};
 
 // Whether the scratch has room for a value of each cell, and there are at most 1,024 regions; what the charges come to; the outcomes of
 // the regions, `Stopped` past the last; and 1 or 0 for a rule that counts as deferred and as simplified. Where it does not fit: the
@@ -84,6 +84,9 @@ fn judge_plan(
     plan: Plan,
     rule: Rule,
     stopped: &[u8],
+    places: &[u16],
+    firsts: &[u16],
+    seconds: &[u16],
     rows: &[u32],
     cols: &[u16],
     kinds: &[u8],
@@ -94,11 +97,11 @@ fn judge_plan(
     region_rows: &[u32],
     region_cols: &[u16],
     pool: &[u8],
-    sheet: Span,
 ) -> Judged
-    ensures { λ r. ⌜ ((regions : List CellCoordinate) → r ≡ judgedIn (sheetFrom (cellsOf (columns (now (rows .entry)) (now (cols .entry))
-        (now (kinds .entry)) (now (wraps .entry)) (now (nums .entry)) (now (ats .entry)) (now (lens .entry)))) regions
-        (now (pool .entry)) sheet) rule (now («region_rows» .entry)) (now («region_cols» .entry)) (now (stopped .entry)) plan) ⌝ }
+    ensures { λ r. ⌜ r ≡ judgedNamed (columns (now (rows .entry)) (now (cols .entry)) (now (kinds .entry)) (now (wraps .entry))
+        (now (nums .entry)) (now (ats .entry)) (now (lens .entry))) (now (pool .entry)) rule (now («region_rows» .entry))
+        (now («region_cols» .entry)) (now (stopped .entry)) (tables (now (places .entry)) (now (firsts .entry)) (now (seconds .entry)))
+        plan ⌝ }
 {
     match plan {
         Plan::Deferred => nothing_judged(true),
@@ -107,6 +110,9 @@ fn judge_plan(
             rule,
             test,
             stopped,
+            places,
+            firsts,
+            seconds,
             rows,
             cols,
             kinds,
@@ -117,7 +123,6 @@ fn judge_plan(
             region_rows,
             region_cols,
             pool,
-            sheet,
         ),
     }
 }
@@ -176,6 +181,9 @@ fn step_by(
     rule: Rule,
     limit: u64,
     stopped: &[u8],
+    places: &[u16],
+    firsts: &[u16],
+    seconds: &[u16],
     rows: &[u32],
     cols: &[u16],
     kinds: &[u8],
@@ -186,12 +194,11 @@ fn step_by(
     region_rows: &[u32],
     region_cols: &[u16],
     pool: &[u8],
-    sheet: Span,
 ) -> Step
-    ensures { λ r. ⌜ ((regions : List CellCoordinate) → r ≡ stepBy (sheetFrom (cellsOf (columns (now (rows .entry)) (now (cols .entry))
-        (now (kinds .entry)) (now (wraps .entry)) (now (nums .entry)) (now (ats .entry)) (now (lens .entry)))) regions
-        (now (pool .entry)) sheet) rule limit (now («region_rows» .entry)) (now («region_cols» .entry)) (now (stopped .entry))
-        plan charged) ⌝ }
+    ensures { λ r. ⌜ r ≡ stepBy limit (judgedNamed (columns (now (rows .entry)) (now (cols .entry)) (now (kinds .entry))
+        (now (wraps .entry)) (now (nums .entry)) (now (ats .entry)) (now (lens .entry))) (now (pool .entry)) rule
+        (now («region_rows» .entry)) (now («region_cols» .entry)) (now (stopped .entry)) (tables (now (places .entry))
+        (now (firsts .entry)) (now (seconds .entry)))) plan charged ⌝ }
 {
     match charged {
         Charged::Within(counter) => {
@@ -199,6 +206,9 @@ fn step_by(
                 plan,
                 rule,
                 stopped,
+                places,
+                firsts,
+                seconds,
                 rows,
                 cols,
                 kinds,
@@ -209,7 +219,6 @@ fn step_by(
                 region_rows,
                 region_cols,
                 pool,
-                sheet,
             );
             said_step(counter, limit, tests_bar(plan), judged)
         }
@@ -225,13 +234,17 @@ fn fits_in(cells: usize, regions: usize, room: usize) -> bool
 }
 
 // Port of one turn of the loop over the rules in resolve_conditional_paints (conditional.rs), up to its marks. `charged` is what the
-// charges so far came to. Once a charge is refused no more work is done. `scratch` has the values of the range, and is left cleared. Where
-// it is shorter than the cells, or there are more than 1,024 regions, nothing is charged and nothing said.
+// charges so far came to. Once a charge is refused no more work is done. The cell of a region, and those that the operands mean from it,
+// are the ones that the tables of places name. `scratch` has the values of the range, and is left cleared. Where it is shorter than the
+// cells, or there are more than 1,024 regions, nothing is charged and nothing said.
 pub fn step_rule(
     rule: Rule,
     charged: Charged,
     limit: u64,
     stopped: &[u8],
+    places: &[u16],
+    firsts: &[u16],
+    seconds: &[u16],
     rows: &[u32],
     cols: &[u16],
     kinds: &[u8],
@@ -242,17 +255,17 @@ pub fn step_rule(
     region_rows: &[u32],
     region_cols: &[u16],
     pool: &[u8],
-    sheet: Span,
     scratch: &mut [f64],
 ) -> Step
-    ensures step { λ r. ⌜ ((regions : List CellCoordinate) → r ≡ stepOf (sheetFrom (cellsOf (columns (now (rows .entry)) (now (cols .entry))
-        (now (kinds .entry)) (now (wraps .entry)) (now (nums .entry)) (now (ats .entry)) (now (lens .entry)))) regions
-        (now (pool .entry)) sheet) rule charged limit (now («region_rows» .entry)) (now («region_cols» .entry)) (now (stopped .entry))
+    ensures step { λ r. ⌜ ((regions : List CellCoordinate) (name : Span) → r ≡ stepNamed (sheetFrom (cellsOf (columns (now (rows .entry))
+        (now (cols .entry)) (now (kinds .entry)) (now (wraps .entry)) (now (nums .entry)) (now (ats .entry)) (now (lens .entry)))) regions
+        (now (pool .entry)) name) (columns (now (rows .entry)) (now (cols .entry)) (now (kinds .entry)) (now (wraps .entry))
+        (now (nums .entry)) (now (ats .entry)) (now (lens .entry))) rule charged limit (now («region_rows» .entry))
+        (now («region_cols» .entry)) (now (stopped .entry)) (tables (now (places .entry)) (now (firsts .entry)) (now (seconds .entry)))
         (length (now (scratch .entry)))) ⌝ }
     ensures scratch { λ _. ⌜ now (scratch .exit) ≡ replicate (length (now (scratch .entry))) zeroF ⌝ }
 {
-    let room = scratch.len();
-    if !fits_in(rows.len(), region_rows.len(), room) {
+    if !fits_in(rows.len(), region_rows.len(), scratch.len()) {
         lent::clear_f64(scratch);
         return empty_step(false, charged);
     }
@@ -277,6 +290,9 @@ pub fn step_rule(
         rule,
         limit,
         stopped,
+        places,
+        firsts,
+        seconds,
         rows,
         cols,
         kinds,
@@ -287,6 +303,5 @@ pub fn step_rule(
         region_rows,
         region_cols,
         pool,
-        sheet,
     )
 }

@@ -1,4 +1,4 @@
--- What a job has whose checks pass: few regions, room for bars and values; and the result of a job by its checks. Assumes nothing.
+-- What a job has whose checks pass: few cells and regions that rise, and room for bars and values. Assumes nothing.
 use Prim.Native.Nat.{ℕ, _≤_}
 use native.Mathlib.Omega.{arith}
 use mathlib.Core.Path.{_≡_, refl}
@@ -9,8 +9,9 @@ use lib.Dec.{ltb}
 use lib.ListN.{length}
 use borrow.Author.Tests.{ltb-false}
 use Rattle.model.specs.Answer.{Summary}
-use Rattle.model.specs.Job.{Job, Lengths, cellCount, regionCount, tooMany, refuseIf, firstOf, malformed, spaceShort}
+use Rattle.model.specs.Job.{Job, Lengths, cellCount, regionCount, tooMany, firstFall, refuseIf, firstOf, malformed, spaceShort}
 use Rattle.checks.specs.Checked.{refusalOf}
+use Rattle.laws.proofs.Apart.{columns-rise}
 use Rattle.laws.proofs.DemandOne.{roomy-spaces}
 
 first-none : (a b : Option Summary) → firstOf (a ∷ b ∷ []) ≡ none → (a ≡ none) × (b ≡ none)
@@ -28,21 +29,25 @@ second-none none false s cs h = refl
 second-none none true s cs h = absurd (let no : _≡_ {A = ℕ} 0 1 = cc in omega arith)
 second-none (some x) met s cs h = absurd (let no : _≡_ {A = ℕ} 0 1 = cc in omega arith)
 
-none-second : (a b c d : Bool) → a || b || c || d ≡ false → b ≡ false
-none-second false false c d h = refl
-none-second false true c d h = h
-none-second true b c d h = absurd (let no : _≡_ {A = ℕ} 0 1 = cc in omega arith)
+none-of-two : (a b c d : Bool) → a || b || c || d ≡ false → (a ≡ false) × (b ≡ false)
+none-of-two false false c d h = (refl, refl)
+none-of-two false true c d h = (refl, h)
+none-of-two true b c d h = absurd (let no : _≡_ {A = ℕ} 0 1 = cc in omega arith)
 
 module _ (j : Job) where
-  few-regions : malformed j ≡ none → regionCount j ≤ 1024
+  few : malformed j ≡ none → (cellCount j ≤ 1024) × (regionCount j ≤ 1024)
   unfolding malformed refuseIf tooMany
-  few-regions h =
-      ltb-false 1024 (regionCount j)
-      (none-second (ltb 1024 (cellCount j)) _ (ltb 64 (j .rules .number)) (ltb 65_536 (length (j .pool))) (second-none _ (tooMany j) _ _ h))
+  few h =
+      let both = none-of-two (ltb 1024 (cellCount j)) (ltb 1024 (regionCount j)) (ltb 64 (j .rules .number)) (ltb 65_536 (length (j .pool)))
+      (second-none _ (tooMany j) _ _ h) in
+      (ltb-false 1024 (cellCount j) (both .0), ltb-false 1024 (regionCount j) (both .1))
 
   -- what the checks leave
   pub record Fine (l : Lengths) : Type 0 where
+    pub cells : cellCount j ≤ 1024
     pub regions : regionCount j ≤ 1024
+    pub cellsRise : firstFall (j .cells .rows) (j .cells .cols) ≡ none
+    pub regionsRise : firstFall (j .regionRows) (j .regionCols) ≡ none
     pub barRules : regionCount j ≤ l .barRules
     pub barPpms : regionCount j ≤ l .barPpms
     pub scratch : cellCount j ≤ l .scratch
@@ -52,4 +57,13 @@ module _ (j : Job) where
   checked-fine l h =
       let both = first-none (malformed j) (spaceShort j l) h in
       let s = roomy-spaces j l (both .1) in
-      record { regions = few-regions (both .0); barRules = s .barRules; barPpms = s .barPpms; scratch = s .scratch }
+      let rise = columns-rise j (both .0) in
+      record {
+        cells = few (both .0) .0;
+        regions = few (both .0) .1;
+        cellsRise = rise .0;
+        regionsRise = rise .1;
+        barRules = s .barRules;
+        barPpms = s .barPpms;
+        scratch = s .scratch;
+      }

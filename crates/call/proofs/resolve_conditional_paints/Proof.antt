@@ -1,5 +1,5 @@
--- `call::resolve_conditional_paints` meets its contract: the columns are cleared; a check that is met is the answer; else the rules are run
--- from the cleared columns, and settled. Nothing is asked where it calls. Assumes nothing.
+-- `call::resolve_conditional_paints` meets its contract: the columns are cleared; a check that is met is the answer; else cells and regions
+-- are few and rise, and the rules are run from the cleared columns, and settled. Assumes nothing.
 use mathlib.Core.Path.{refl, _∙_}
 use denote.Ref.{now}
 use borrow.Author.Needs.{needs}
@@ -77,6 +77,22 @@ returns c =
 
 enum-told : tie.Need-enum-told
 enum-told c = search needs
+
+run-requires : tie.Need-run-requires
+run-requires c κs =
+    let checked = c .before .before .before .before .before .before .before .before .before .before in
+    let cleared = checked .before .before .before .before .before .before .before .before .before .before .before .before .before .before .before in
+    let a = cleared .before .before .before .before .before .before .before .before .before .before .before .before .before .before .before .before .before .before .before .before .before .before .before .before .before .before .args in
+    let j = jobOf (cellColumns (now (a .rows)) (now (a .cols)) (now (a .kinds)) (now (a .wraps)) (now (a .nums)) (now (a .ats)) (now
+    (a .lens)))
+    (now (a .region-rows)) (now (a .region-cols)) (now (a .pool)) (a .name) (a .rules) (a .start) in
+    let l = lengthsOf (lent (now (a .regions)) (now (a .ruleids)) (now (a .markkinds)) (now (a .colours)) (now (a .ppms))
+    (now (a .barrules)) (now (a .barppms)) (now (a .scratch))) in
+    let k = cleared .clear-columns .kept in
+    let none-met = fine j (a .limit) l (checked .check .result) _ _ _ (k .1 .1 .1 .1 .1 .0) (k .1 .1 .1 .1 .1 .1 .0) refl
+    (checked .check .ensures) (c .before .before .before .before .before .before .before .before .before .match .keys2) in
+    let f = checked-fine j l none-met in
+    ((f .cellsRise, f .cells), (f .regionsRise, f .regions))
 
 same-length-9 : tie.Need-same-length-9
 same-length-9 c =
@@ -197,5 +213,5 @@ resolve-conditional-paints-spec =
     tie.close
     (tie.spec (λ _ _. tt) (λ _ _. tt) enum-known-checked (λ _ _. tt)
     same-length same-length-2 same-length-3 same-length-4 same-length-5 same-length-6 same-length-7 same-length-8 returns
-    enum-told (λ _ _. tt) (λ _ _. tt)
+    enum-told run-requires (λ _ _. tt)
     same-length-9 same-length-10 same-length-11 same-length-12 same-length-13 same-length-14 same-length-15 same-length-16 returns-2)

@@ -1,4 +1,4 @@
--- `judge::judged_as` meets its contract: the outcomes are those that `said_unless` leaves. Nothing is asked where it calls. Assumes nothing.
+-- `judge::judged_as` meets its contract: the outcomes are those that `said_unless` leaves. Nothing is asked at its call. Assumes nothing.
 use mathlib.Core.Path.{ap}
 use mathlib.Core.List.{List}
 use Rattle.judge.specs.declared.Said.{Said}

@@ -3,33 +3,32 @@
 use mathlib.Core.Path.{sym, _∙_}
 use borrow.Author.Needs.{needs}
 use borrow.Author.Tests.{not-true, not-false}
-use Rattle.judge.proofs.Regions.{outcome-stopped, outcome-outside, outcome-within}
+use Rattle.judge.specs.Judge.{outcomeNamed}
 use Rattle.judge.proofs.region_outcome.Statement.{statement}
 use Rattle.judge.proofs.region_outcome.Tie as tie
 
 returns : tie.Need-returns
-returns c regions state h = sym (outcome-stopped _ _ _ regions _ _ _ state (h ∙ c .if1 .taken))
+unfolding outcomeNamed
+returns c = rw (c .if1 .taken)
 
 in-range-requires : tie.Need-in-range-requires
 in-range-requires c κs = search needs
 
 returns-2 : tie.Need-returns-2
-returns-2 c regions state h =
-    sym (outcome-outside _ _ _ regions _ _ _ state (h ∙ c .before .before .before .if1 .left)
-    (sym (c .before .in-range .ensures) ∙ not-true _ (c .if2 .taken)))
+unfolding outcomeNamed
+returns-2 c =
+    rw (c .before .before .before .if1 .left, sym (c .before .in-range .ensures) ∙ not-true _ (c .if2 .taken))
 
-verdict-at-requires : tie.Need-verdict-at-requires
-verdict-at-requires c κs =
-    let begun = c .before .before .before .before .before .before .before .before in
-    (sym (c .before .in-range .ensures) ∙ not-false _ (c .if2 .left), begun .before .before .before .before .before .pre)
+verdict-named-requires : tie.Need-verdict-named-requires
+verdict-named-requires c κs =
+    c .before .before .before .before .before .before .before .before .before .before .before .before .before .pre
 
 returns-3 : tie.Need-returns-3
-returns-3 c regions state h =
+unfolding outcomeNamed
+returns-3 c =
     let within = c .before .before in
-    c .verdict-at .ensures regions
-    ∙ sym (outcome-within _ _ _ regions _ _ _ state (h ∙ within .before .before .if1 .left)
-    (sym (within .in-range .ensures) ∙ not-false _ (c .before .if2 .left)))
+    rw (within .before .before .if1 .left, sym (within .in-range .ensures) ∙ not-false _ (c .before .if2 .left)) (c .verdict-named .ensures)
 
 pub region-outcome-spec : {M : Type 1} → statement M
 region-outcome-spec =
-    tie.close (tie.spec returns in-range-requires returns-2 verdict-at-requires returns-3)
+    tie.close (tie.spec returns in-range-requires returns-2 verdict-named-requires returns-3)

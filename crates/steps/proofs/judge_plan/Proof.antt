@@ -1,6 +1,6 @@
 -- `steps::judge_plan` meets its contract: a plan that is deferred, skipped, or tested. Assumes nothing.
 use borrow.Author.Needs.{needs}
-use Rattle.steps.specs.Step.{judgedIn}
+use Rattle.steps.specs.Step.{judgedNamed}
 use Rattle.steps.proofs.judge_plan.Statement.{statement}
 use Rattle.steps.proofs.judge_plan.Tie as tie
 
@@ -23,16 +23,16 @@ judge-requires : tie.Need-judge-requires
 judge-requires c κs = search needs
 
 returns : tie.Need-returns
-unfolding judgedIn
-returns c regions = rw (c .before .enum-told .given .1) (c .nothing-judged .ensures)
+unfolding judgedNamed
+returns c = rw (c .before .enum-told .given .1) (c .nothing-judged .ensures)
 
 returns-2 : tie.Need-returns-2
-unfolding judgedIn
-returns-2 c regions = rw (c .before .enum-told2 .given .1) (c .nothing-judged2 .ensures)
+unfolding judgedNamed
+returns-2 c = rw (c .before .enum-told2 .given .1) (c .nothing-judged2 .ensures)
 
 returns-3 : tie.Need-returns-3
-unfolding judgedIn
-returns-3 c regions = rw (c .before .before .plan .given .1) (c .judge .ensures regions)
+unfolding judgedNamed
+returns-3 c = rw (c .before .before .plan .given .1) (c .judge .ensures)
 
 pub judge-plan-spec : {M : Type 1} → statement M
 judge-plan-spec =

@@ -3,7 +3,7 @@ use mathlib.Core.Path.{ap, _∙_}
 use borrow.Author.Needs.{needs}
 use Rattle.charging.specs.Charge.{andThen}
 use Rattle.steps.specs.Step.{saidStep}
-use Rattle.steps.proofs.Laws.{said-accepted, said-refused}
+use Rattle.steps.proofs.Saying.{said-accepted, said-refused}
 use Rattle.steps.proofs.said_step.Statement.{statement}
 use Rattle.steps.proofs.said_step.Tie as tie
 

@@ -28,12 +28,13 @@ returns : tie.Need-returns
 returns c =
     let cleared = c .before .before .before in
     let over = cleared .before .before in
-    let a = over .before .before .before .before .before .before .before .before .before .before .before .before .before .before .args in
+    let a = over .before .before .before .before .before .before .before .before .before .before .before .before
+    .before .before .before .before .before .args in
     let cells = columns (now (a .rows)) (now (a .cols)) (now (a .kinds)) (now (a .wraps)) (now (a .nums)) (now (a .ats)) (now (a .lens)) in
     let regionCount = length (now (a .region-rows)) in (
-      λ regions.
+      λ regions name.
           c .empty-step .ensures
-          ∙ step-unfit _ _ _ _ _ _ _ _
+          ∙ step-unfit _ _ _ _ _ _ _
           (fits-so cells regionCount _ _ _ (over .before .fits-in .ensures) (not-true _ (over .if1 .taken))),
       cleared .clear-f64 .ensures,
     )
@@ -44,7 +45,8 @@ charge-after-requires c κs = search needs
 plan-within-requires : tie.Need-plan-within-requires
 plan-within-requires c κs =
     let fit = c .before .before in
-    let a = fit .before .before .before .before .before .before .before .before .before .before .before .before .before .before .args in
+    let a = fit .before .before .before .before .before .before .before .before .before .before .before .before
+    .before .before .before .before .before .args in
     fits-cells _ (length (now (a .region-rows))) _ (sym (fit .before .fits-in .ensures) ∙ not-false _ (fit .if1 .left))
 
 clear-f64-requires-2 : tie.Need-clear-f64-requires-2
@@ -64,14 +66,15 @@ returns-2 c =
     let planned = cleared .before .before .before .before in
     let ahead = planned .before .before in
     let fit = ahead .before in
-    let a = fit .before .before .before .before .before .before .before .before .before .before .before .before .before .before .args in
+    let a = fit .before .before .before .before .before .before .before .before .before .before .before .before
+    .before .before .before .before .before .args in
     let cells = columns (now (a .rows)) (now (a .cols)) (now (a .kinds)) (now (a .wraps)) (now (a .nums)) (now (a .ats)) (now (a .lens)) in
     let regionCount = length (now (a .region-rows)) in (
-      λ regions.
-          c .step-by .ensures regions
-          ∙ step-by-parts _ _ _ _ _ _ _ _ _ _
+      λ regions name.
+          c .step-by .ensures
+          ∙ step-by-parts _ _ _ _ _ _ _ _ _
           (fits-so cells regionCount _ _ _ (fit .before .fits-in .ensures) (not-false _ (fit .if1 .left)))
-          (ahead .charge-after .ensures _ _ _ _ _ regions _ _) (planned .plan-within .ensures regions _),
+          (ahead .charge-after .ensures _ _ _ _ _ regions _ name) (planned .plan-within .ensures regions name),
       cleared .clear-f642 .ensures
           ∙ ap (λ (n : ℕ). replicate n zeroF) (planned .plan-within .kept .1 .1 .1 .1 .1 .1 .1 .1 .1 .1 .0),
     )

@@ -1,8 +1,9 @@
 //! Jobs for the measurement: each rule kind alone and a gradebook with all of them, with rules that divide the sheet or that all lie over
-//! the whole of it; jobs that show why a side is slow; and texts and reports of rising length.
+//! the whole of it; jobs by which two archives are compared; jobs that show why a side is slow; and texts and reports of rising length.
 
 mod gradebook;
 pub mod long;
+pub mod places;
 pub mod reasons;
 
 use crate::job::{CellAt, Job, Kind, Operand, Range, Reference, Rgb24, Rule, Value};
@@ -10,6 +11,8 @@ use crate::rng::Rng;
 
 /// `words` is `same` over texts, `stops` a gradebook in which every third rule has stop-if-true.
 pub const KINDS: [&str; 11] = ["cellis", "scale2", "scale3", "bar", "rank", "mean", "same", "words", "expr", "gradebook", "stops"];
+/// `cellis` with a reference among its operands: to the region's own cell, and to the last cell of the range.
+const REFERRING_KINDS: [&str; 2] = ["cellis, relative", "cellis, absolute"];
 /// Those that can lie 64 times over 1,024 cells and still have space for their marks.
 pub const SPARING_KINDS: [&str; 5] = ["cellis", "rank", "same", "words", "expr"];
 pub const SIZES: [usize; 3] = [64, 256, 1024];
@@ -41,6 +44,17 @@ fn between(least: f64, greatest: f64) -> Kind {
     Kind::CellIs { op: 0, first: literal(least), second: Some(literal(greatest)), fill: RED }
 }
 
+/// From a number up to the region's own cell, by a relative reference.
+fn up_to_own(range: Range, least: f64) -> Kind {
+    Kind::CellIs { op: 0, first: literal(least), second: Some(to_the_left(range, 0)), fill: RED }
+}
+
+/// Equal to the range's last cell, by an absolute reference.
+fn equal_to_last(range: Range) -> Kind {
+    let last = Reference { row: range.bottom, col: range.right, absolute: 3, name: None };
+    Kind::CellIs { op: 2, first: Operand::Reference(last), second: None, fill: RED }
+}
+
 /// The region's own cell, by a reference, is less than a number.
 fn own_less(range: Range, than: f64) -> Kind {
     Kind::Expr { op: 2, left: to_the_left(range, 0), right: literal(than), fill: RED }
@@ -49,6 +63,8 @@ fn own_less(range: Range, than: f64) -> Kind {
 fn kind(name: &str, range: Range) -> Kind {
     match name {
         "cellis" => between(40.0, 60.0),
+        "cellis, relative" => up_to_own(range, 40.0),
+        "cellis, absolute" => equal_to_last(range),
         "scale2" => Kind::Scale2 { min: RED, max: GREEN },
         "scale3" => Kind::Scale3 { min: RED, mid: [255, 255, 0], max: GREEN },
         "bar" => Kind::Bar { colour: [0, 0, 255] },
@@ -64,6 +80,7 @@ fn kind(name: &str, range: Range) -> Kind {
 fn sparing_kind(name: &str, range: Range) -> Kind {
     match name {
         "cellis" => between(102.0, 110.0),
+        "cellis, relative" => up_to_own(range, 102.0),
         "rank" => Kind::Rank { number: 1, bottom: false, percent: false, fill: RED },
         "expr" => own_less(range, 0.5),
         _ => kind(name, range),
@@ -170,6 +187,9 @@ mod tests {
         }
         for (what, job) in reasons::all() {
             assert_answered(what, &job);
+        }
+        for places::Placed { kind, job, .. } in places::all() {
+            assert_answered(&format!("{kind} {} {}", job.cells.len(), job.rules.len()), &job);
         }
     }
 }

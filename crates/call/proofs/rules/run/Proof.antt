@@ -1,13 +1,18 @@
--- `call::rules::run` meets its contract. The loop's invariant: the rules left come, from the state that the loop has, to what all rules come to
--- from the start; the counts stay small; the columns keep their lengths and the scratch is 0. A turn takes the next rule. The measure is
--- how many rules are left. Assumes nothing.
+-- `call::rules::run` meets its contract. The walk leaves the table of the regions' own cells. The loop's invariant: the rules left come, from
+-- the state that the loop has, to what all rules come to from the start; the counts stay small; the columns and tables keep their lengths
+-- and the scratch is 0. A turn takes the next rule. The measure is how many rules are left. Assumes nothing.
 use Prim.Native.Nat.{ℕ, _-_, _≤_, _<_}
 use mathlib.Core.Path.{_≡_, refl, sym, ap, _∙_}
+use mathlib.Core.Bool.{true}
+use mathlib.Core.List.{List}
 use native.Mathlib.Omega.{arith}
 use denote.Ref.{now}
-use lib.ListN.{length, replicate, length-replicate}
+use lib.ListN.{length, getD, replicate, length-replicate}
+use borrow.Author.Tests.{le-leb}
 use Rattle.model.specs.Ratio.{zeroF}
 use Rattle.cells.specs.Columns.{columns}
+use Rattle.places.specs.Walk.{walkFits}
+use Rattle.places.proofs.Table.{table-finds}
 use Rattle.order.specs.Order.{orderedRules}
 use Rattle.turns.specs.Emit.{markColumns, barColumns}
 use Rattle.turns.specs.Turns.{stateOf, leftBy, sheetIn, sayIn}
@@ -17,8 +22,8 @@ use Rattle.call.proofs.rules.run.Tie as tie
 
 abbrev Inv-loop : tie.InvT-loop
 Inv-loop start limit rows cols kinds wraps nums ats lens region-rows region-cols pool sheet regions₀ ruleids₀ markkinds₀ colours₀ ppms₀
-    barrules₀
-    barppms₀ scratch₀ rules order count flags₀ ran₀ k₀ regions ruleids markkinds colours ppms barrules barppms scratch flags ran k =
+    barrules₀ barppms₀ scratch₀ rules order count places firsts₀ seconds₀ flags₀ ran₀ k₀ regions ruleids markkinds colours ppms barrules
+    barppms scratch firsts seconds flags ran k =
     let say = sayIn (sheetIn (columns rows cols kinds wraps nums ats lens) region-rows region-cols pool sheet) limit region-rows region-cols
     (length scratch₀) in
     let marks₀ = markColumns regions₀ ruleids₀ markkinds₀ colours₀ ppms₀ in
@@ -26,13 +31,24 @@ Inv-loop start limit rows cols kinds wraps nums ats lens region-rows region-cols
     let bars₀ = barColumns barrules₀ barppms₀ in
     let bars = barColumns barrules barppms in
     Running say rules (stateOf ran₀ flags₀ marks₀ bars₀) (stateOf ran flags marks bars) k × Small ran k
-    × Kept marks₀ marks bars₀ bars scratch₀ scratch flags × (k ≤ count)
+    × Kept marks₀ marks bars₀ bars scratch₀ scratch flags × (k ≤ count) × (length firsts ≡ 1024) × (length seconds ≡ 1024)
 
 abbrev μ-loop : tie.MeasureT-loop
 μ-loop start limit rows cols kinds wraps nums ats lens region-rows region-cols pool sheet regions₀ ruleids₀ markkinds₀ colours₀ ppms₀
-    barrules₀
-    barppms₀ scratch₀ rules order count flags₀ ran₀ k₀ regions ruleids markkinds colours ppms barrules barppms scratch flags ran k =
+    barrules₀ barppms₀ scratch₀ rules order count places firsts₀ seconds₀ flags₀ ran₀ k₀ regions ruleids markkinds colours ppms barrules
+    barppms scratch firsts seconds flags ran k =
     count - k
+
+zeros : length (replicate {A = ℕ} 1024 0) ≡ 1024
+zeros = length-replicate {A = ℕ} 1024 0
+
+-- a table of 1,024 entries is fit for what the checks let through
+table-fits : (cells regions room : ℕ) → cells ≤ 1024 → regions ≤ 1024 → room ≡ 1024 → walkFits cells regions room ≡ true
+table-fits cells regions room c r e =
+    rw (le-leb regions room (omega (arith, r, e)), le-leb cells 65_535 (omega (arith, c)))
+
+slice-aggregate-walk-cells : tie.Need-slice-aggregate-walk-cells Inv-loop μ-loop
+slice-aggregate-walk-cells c = sym zeros
 
 loop-holds : tie.Need-loop-holds Inv-loop μ-loop
 loop-holds c =
@@ -50,17 +66,24 @@ loop-holds c =
         barPpms = refl;
         scratch = refl;
         cleared = cleared .ensures ∙ ap (λ (n : ℕ). replicate n zeroF) (sym (cleared .kept .0));
-        flagged = length-replicate {A = ℕ} 1024 0;
+        flagged = zeros;
       },
       omega arith,
+      zeros,
+      zeros,
     )
 
 array-read-index : tie.Need-array-read-index Inv-loop μ-loop
-array-read-index c = omega (arith, c .loop-test .taken, c .before .before .before .before .before .before .before .rule-count .ensures .1)
+array-read-index c = omega (
+  arith,
+  c .loop-test .taken,
+  c .before .before .before .before .before .before .before .before .before .before
+      .rule-count .ensures .1,
+)
 
 cast-at : tie.Need-cast-at Inv-loop μ-loop
 cast-at c =
-    let count = c .before .before .before .before .before .before .before in
+    let count = c .before .before .before .before .before .before .before .before .before .before in
     omega (
       arith,
       count .rule-count .ensures .1,
@@ -69,7 +92,7 @@ cast-at c =
 
 mul-rule : tie.Need-mul-rule Inv-loop μ-loop
 mul-rule c =
-    let count = c .before .before .before .before .before .before .before in
+    let count = c .before .before .before .before .before .before .before .before .before .before in
     omega (
       arith,
       count .rule-count .ensures .1,
@@ -78,7 +101,7 @@ mul-rule c =
 
 element-copy-out-rule : tie.Need-element-copy-out-rule Inv-loop μ-loop
 element-copy-out-rule c =
-    let count = c .before .before .before .before .before .before .before in
+    let count = c .before .before .before .before .before .before .before .before .before .before in
     omega (
       arith,
       count .rule-count .ensures .1,
@@ -86,46 +109,69 @@ element-copy-out-rule c =
     )
 
 slice-aggregate-turn : tie.Need-slice-aggregate-turn Inv-loop μ-loop
-slice-aggregate-turn c = sym (c .before .before .before .loop .inv .2 .flagged)
+slice-aggregate-turn c = sym (c .before .before .before .before .before .before .before .before .before .before .walk-cells .kept .1 .1 .1
+    .1 .0 ∙ zeros)
+
+slice-aggregate-turn-2 : tie.Need-slice-aggregate-turn-2 Inv-loop μ-loop
+slice-aggregate-turn-2 c = sym (c .before .before .before .before .loop .inv .4)
+
+slice-aggregate-turn-3 : tie.Need-slice-aggregate-turn-3 Inv-loop μ-loop
+slice-aggregate-turn-3 c = sym (c .before .before .before .before .before .loop .inv .5)
+
+slice-aggregate-turn-4 : tie.Need-slice-aggregate-turn-4 Inv-loop μ-loop
+slice-aggregate-turn-4 c = sym (c .before .before .before .before .before .before .loop .inv .2 .flagged)
 
 turn-requires : tie.Need-turn-requires Inv-loop μ-loop
 turn-requires c κs =
-    let turn = c .before .before .before .before .before .before .before .before .before .before in
-    let small = turn .before .loop .inv .1 in
-    let few = turn .before .before .before .before .before .before .before .rule-count .ensures .1 in (
-      omega (arith, small .marks, turn .loop-test .taken, few),
-      omega (arith, small .deferred, turn .loop-test .taken, few),
-      omega (arith, small .simplified, turn .loop-test .taken, few),
+    let turn = c .before .before .before .before .before .before .before .before .before .before .before .before .before in
+    let inv = turn .before .loop .inv in
+    let walked = turn .before .before .before .before .before .before .before .before .walk-cells in
+    let few = turn .before .before .before .before .before .before .before .before .before .before .rule-count .ensures .1 in
+    let pre = turn .before .before .before .before .before .before .before .before .before .before .before .before .before .before .before
+    .before .before .before .before .before .before .before .before .before .before .before .before .before .before .before .pre in
+    let fits = table-fits _ _ _ (pre .0 .1) (pre .1 .1) zeros in (
+      (
+        omega (arith, inv .1 .marks, turn .loop-test .taken, few),
+        omega (arith, inv .1 .deferred, turn .loop-test .taken, few),
+        omega (arith, inv .1 .simplified, turn .loop-test .taken, few),
+      ),
+      (
+        (pre .0 .0, pre .0 .1),
+        (
+          (omega (arith, pre .1 .1, inv .4), omega (arith, pre .1 .1, inv .5)),
+          λ i h. ap (λ (t : List ℕ). getD t i 0) (walked .ensures .1) ∙ table-finds _ _ _ _ _ fits (pre .0 .0) (pre .1 .0) i h,
+        ),
+      ),
     )
 
 add-k : tie.Need-add-k Inv-loop μ-loop
 add-k c = omega (
   arith,
-  c .before .before .before .before .before .before .before .before .before .before .before .before .before
-      .before .before .before .before .before .before .before .before .before .before .before .before .before .before .before .loop-test
-      .taken,
-  c .before .before .before .before .before .before .before .before .before .before .before .before .before .before .before
-      .before .before .before .before .before .before .before .before .before .before .before .before .before .before .before .before
-      .before .before .before .before .rule-count .ensures .1,
+  c .before .before .before .before .before .before .before .before .before .before .before .before .before .before
+      .before .before .before .before .before .before .before .before .before .before .before .before .before .before .before .before .before
+      .before .before .loop-test .taken,
+  c .before .before .before .before .before .before .before .before .before .before .before .before
+      .before .before .before .before .before .before .before .before .before .before .before .before .before .before .before .before .before
+      .before .before .before .before .before .before .before .before .before .before .before .before .before .before .rule-count .ensures .1,
 )
 
 loop-less : tie.Need-loop-less Inv-loop μ-loop
 loop-less c = omega (
   arith,
   c .before .before .before .before .before .before .before .before .before .before .before .before .before
-      .before .before .before .before .before .before .before .before .before .before .before .before .before .before .before .loop-test
-      .taken,
+      .before .before .before .before .before .before .before .before .before .before .before .before .before .before .before .before .before
+      .before .before .before .loop-test .taken,
 )
 
 loop-again : tie.Need-loop-again Inv-loop μ-loop
 loop-again c =
     let turn = c .before .before .before .before .before .before .before .before .before .before .before .before .before .before .before
-    .before .before in
-    let test = turn .before .before .before .before .before .before .before .before .before .before .before in
+    .before .before .before .before in
+    let test = turn .before .before .before .before .before .before .before .before .before .before .before .before .before .before in
     let at = test .before .loop in
-    let count = test .before .before .before .before .before .before .before in
-    let a = count .before .before .before .before .before .before .before .before .before .before .before .before .before .before
-    .before .before .before .before .before .before .args in
+    let count = test .before .before .before .before .before .before .before .before .before .before in
+    let a = count .before .before .before .before .before .before .before .before .before .before .before .before .before .before .before
+    .before .before .before .before .before .args in
     let rules = a .t1 in
     let rr = now (a .region-rows) in
     let rc = now (a .region-cols) in
@@ -140,18 +186,20 @@ loop-again c =
           (at .inv .0) (turn .turn .ensures .0),
       small-next (at .inv .1) (few .0) (few .1) (few .2),
       record {
-        regions = k .1 .1 .1 .1 .1 .1 .1 .1 .1 .1 .1 .1 .1 .1 .1 .1 .0 ∙ v .regions;
-        rules = k .1 .1 .1 .1 .1 .1 .1 .1 .1 .1 .1 .1 .1 .1 .1 .1 .1 .0 ∙ v .rules;
-        kinds = k .1 .1 .1 .1 .1 .1 .1 .1 .1 .1 .1 .1 .1 .1 .1 .1 .1 .1 .0 ∙ v .kinds;
-        colours = k .1 .1 .1 .1 .1 .1 .1 .1 .1 .1 .1 .1 .1 .1 .1 .1 .1 .1 .1 .0 ∙ v .colours;
-        ppms = k .1 .1 .1 .1 .1 .1 .1 .1 .1 .1 .1 .1 .1 .1 .1 .1 .1 .1 .1 .1 .0 ∙ v .ppms;
-        barRules = k .1 .1 .1 .1 .1 .1 .1 .1 .1 .1 .1 .1 .1 .1 .1 .1 .1 .1 .1 .1 .1 .0 ∙ v .barRules;
-        barPpms = k .1 .1 .1 .1 .1 .1 .1 .1 .1 .1 .1 .1 .1 .1 .1 .1 .1 .1 .1 .1 .1 .1 .0 ∙ v .barPpms;
-        scratch = k .1 .1 .1 .1 .1 .1 .1 .1 .1 .1 .1 .1 .1 .1 .1 .1 .1 .1 .1 .1 .1 .1 .1 .0 ∙ v .scratch;
+        regions = k .1 .1 .1 .1 .1 .1 .1 .1 .1 .1 .1 .1 .1 .1 .1 .1 .1 .1 .1 .0 ∙ v .regions;
+        rules = k .1 .1 .1 .1 .1 .1 .1 .1 .1 .1 .1 .1 .1 .1 .1 .1 .1 .1 .1 .1 .0 ∙ v .rules;
+        kinds = k .1 .1 .1 .1 .1 .1 .1 .1 .1 .1 .1 .1 .1 .1 .1 .1 .1 .1 .1 .1 .1 .0 ∙ v .kinds;
+        colours = k .1 .1 .1 .1 .1 .1 .1 .1 .1 .1 .1 .1 .1 .1 .1 .1 .1 .1 .1 .1 .1 .1 .0 ∙ v .colours;
+        ppms = k .1 .1 .1 .1 .1 .1 .1 .1 .1 .1 .1 .1 .1 .1 .1 .1 .1 .1 .1 .1 .1 .1 .1 .0 ∙ v .ppms;
+        barRules = k .1 .1 .1 .1 .1 .1 .1 .1 .1 .1 .1 .1 .1 .1 .1 .1 .1 .1 .1 .1 .1 .1 .1 .1 .0 ∙ v .barRules;
+        barPpms = k .1 .1 .1 .1 .1 .1 .1 .1 .1 .1 .1 .1 .1 .1 .1 .1 .1 .1 .1 .1 .1 .1 .1 .1 .1 .0 ∙ v .barPpms;
+        scratch = k .1 .1 .1 .1 .1 .1 .1 .1 .1 .1 .1 .1 .1 .1 .1 .1 .1 .1 .1 .1 .1 .1 .1 .1 .1 .1 .0 ∙ v .scratch;
         cleared = turn .turn .ensures .1 .1 ∙ ap (λ (n : ℕ). replicate n zeroF) (v .scratch);
-        flagged = k .1 .1 .1 .1 .1 .1 .1 .1 .1 .1 .1 .1 .1 .1 .1 .0 ∙ v .flagged;
+        flagged = k .1 .1 .1 .1 .1 .1 .1 .1 .1 .1 .1 .1 .1 .1 .1 .1 .1 .1 .0 ∙ v .flagged;
       },
       omega (arith, test .loop-test .taken),
+      k .1 .1 .1 .1 .1 .1 .1 .1 .1 .1 .1 .1 .1 .1 .1 .1 .0 ∙ at .inv .4,
+      k .1 .1 .1 .1 .1 .1 .1 .1 .1 .1 .1 .1 .1 .1 .1 .1 .1 .0 ∙ at .inv .5,
     )
 
 same-length : tie.Need-same-length Inv-loop μ-loop
@@ -183,7 +231,7 @@ returns c =
     let at = c .before .loop in
     let cleared = c .before .before .before .before .clear-f64 in
     let none = c .before .before .before .before .before .before .none-yet .ensures in
-    let count = c .before .before .before .before .before .before .before in
+    let count = c .before .before .before .before .before .before .before .before .before .before in
     let rules = count .before .before .before .before .before .before .before .before .before .before .before .before .before .before
     .before .before .before .before .before .before .args .t1 in
     let end : at .k ≡ length (orderedRules rules) =
@@ -195,7 +243,7 @@ returns c =
 pub run-spec : {M : Type 1} → statement M
 run-spec =
     tie.close
-    (tie.spec Inv-loop μ-loop (λ _ _. tt) (λ _ _. tt) (λ _ _. tt)
+    (tie.spec Inv-loop μ-loop (λ _ _. tt) (λ _ _. tt) slice-aggregate-walk-cells (λ _ _. tt) (λ _ _. tt)
     (λ _ _. tt) loop-holds array-read-index cast-at mul-rule element-copy-out-rule
-    slice-aggregate-turn turn-requires add-k loop-less loop-again
+    slice-aggregate-turn slice-aggregate-turn-2 slice-aggregate-turn-3 slice-aggregate-turn-4 turn-requires add-k loop-less loop-again
     same-length same-length-2 same-length-3 same-length-4 same-length-5 same-length-6 same-length-7 same-length-8 returns)

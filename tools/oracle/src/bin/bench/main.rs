@@ -1,5 +1,7 @@
 //! Measures the library and the original on the same jobs, in one process.
 
+#[cfg(feature = "before")]
+mod before;
 mod lengths;
 mod measure;
 mod saves;
@@ -18,7 +20,7 @@ use oracle::write::job_text;
 use lengths::Length;
 use measure::{lent_report, library, Measured};
 
-const USAGE: &str = "usage: bench | bench saves | bench calls library|original divided|over KIND CELLS RULES TIMES";
+const USAGE: &str = "usage: bench | bench before | bench saves | bench calls library|original divided|over KIND CELLS RULES TIMES";
 const PASSES: usize = 8;
 
 fn main() -> ExitCode {
@@ -28,6 +30,8 @@ fn main() -> ExitCode {
 fn bench(args: &[&str]) -> Result<(), String> {
     match args {
         [] => all_tables(),
+        #[cfg(feature = "before")]
+        ["before"] => before::tables(PASSES),
         ["saves"] => saves::table(PASSES),
         ["calls", side, form, kind, cells, rules, times] => {
             calls(side, &chosen_job(form, kind, number(cells)?, number(rules)?)?, number(times)?)

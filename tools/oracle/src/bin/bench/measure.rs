@@ -22,6 +22,9 @@ const LONGEST_REPORT: usize = 42_979;
 const SLICE: Duration = Duration::from_millis(60);
 const TURNS: usize = 500;
 
+/// A call on a text with bytes lent for its report; gives the report's length.
+pub type Call = fn(&[u8], &mut [u8]) -> usize;
+
 pub fn library(text: &[u8], lent: &mut [u8]) -> usize {
     // Both pointers are to slices of the lengths that the call is told.
     unsafe { wavendiru_whole_job(text.as_ptr(), text.len(), lent.as_mut_ptr(), lent.len()) }
@@ -58,27 +61,35 @@ pub fn repeat(mut turn: impl FnMut()) {
     }
 }
 
+/// Microseconds of the original's own run.
+pub fn deciding_time(clock: &Clock, job: &Job) -> f64 {
+    let Carried { sheet, mut regions, options, start } = carry_over(job);
+    let displayed = display_cells(&sheet);
+    clock.micros(|| run(&sheet, &displayed, &mut regions, &options, start, ORIGINAL))
+}
+
 /// The texts of one job, by how far the library gets.
-struct Texts {
-    checked: Vec<u8>,
-    decided: Vec<u8>,
+pub struct Texts {
+    pub checked: Vec<u8>,
+    pub decided: Vec<u8>,
     answered: Vec<u8>,
 }
 
 impl Texts {
-    fn new(job: &Job, count: u64) -> Self {
-        Texts {
+    pub fn new(what: &str, job: &Job) -> Result<Self, String> {
+        let count = decide(job, ORIGINAL).map_err(|refusal| format!("{what}: {refusal:?}"))?.count;
+        Ok(Texts {
             checked: job_text(&refused_by_check(job)),
             decided: job_text(&Job { limit: count - 1, ..job.clone() }),
             answered: job_text(job),
-        }
+        })
     }
 
     /// Both sides have to report the same on each text, by the number that it was made for.
-    fn confirm(&self, what: &str) -> Result<(), String> {
+    pub fn confirm(&self, what: &str, call: Call) -> Result<(), String> {
         for (text, number) in [(&self.checked, 4), (&self.decided, 7), (&self.answered, 0)] {
             let mut lent = lent_report();
-            let length = library(text, &mut lent);
+            let length = call(text, &mut lent);
             let theirs = report(text);
             if lent[..length] != theirs[..] {
                 return Err(format!("{what}: the two reports differ"));
@@ -114,9 +125,7 @@ impl Theirs {
     }
 
     fn time_deciding(&mut self, clock: &Clock, job: &Job) {
-        let Carried { sheet, mut regions, options, start } = carry_over(job);
-        let displayed = display_cells(&sheet);
-        self.decided.add(clock.micros(|| run(&sheet, &displayed, &mut regions, &options, start, ORIGINAL)));
+        self.decided.add(deciding_time(clock, job));
     }
 
     fn time_printing(&mut self, clock: &Clock, job: &Job, text: &[u8]) {
@@ -141,9 +150,8 @@ impl Measured {
     pub fn new(name: &'static str, job: Job) -> Result<Self, String> {
         let (cells, rules) = (job.cells.len(), job.rules.len());
         let what = format!("{name} with {cells} cells and {rules} rules");
-        let count = decide(&job, ORIGINAL).map_err(|refusal| format!("{what}: {refusal:?}"))?.count;
-        let texts = Texts::new(&job, count);
-        texts.confirm(&what)?;
+        let texts = Texts::new(&what, &job)?;
+        texts.confirm(&what, library)?;
         Ok(Measured { name, cells, rules, job, texts, ours: Ours::default(), theirs: Theirs::default() })
     }
 

@@ -1,0 +1,3 @@
+pub mod Seeking
+pub mod Filling
+pub mod Meaning
