@@ -8,28 +8,33 @@ use lib.ListN.{length, getD, set, length-set}
 use lib.Seq.{getD-set-same, getD-set-other}
 use borrow.Author.Count.{below-more}
 
--- up to i the table has the entry of each index that is wanted
-pub record FilledIn (wanted : ℕ → Bool) (entry : ℕ → ℕ) (first table : List ℕ) (i : ℕ) : Type 0 where
-  pub long : length table ≡ length first
-  pub filled : (k : ℕ) → k < i → wanted k ≡ true → getD table k 0 ≡ entry k
+module _ {A : Type 0} where
+  -- up to i the table has the entry of each index that is wanted; past its end it has d
+  pub record FilledIn (d : A) (wanted : ℕ → Bool) (entry : ℕ → A) (first table : List A) (i : ℕ) : Type 0 where
+    pub long : length table ≡ length first
+    pub filled : (k : ℕ) → k < i → wanted k ≡ true → getD table k d ≡ entry k
 
-module _ {wanted : ℕ → Bool} {entry : ℕ → ℕ} {first : List ℕ} where
-  pub filled-begun : FilledIn wanted entry first first 0
-  filled-begun = record { long = refl; filled = λ k h. absurd (omega arith) }
+  -- each index is wanted
+  abbrev pub Filled : A → (ℕ → A) → List A → List A → ℕ → Type 0
+  Filled d entry first table i = FilledIn d (λ k. true) entry first table i
 
-  module _ {table : List ℕ} {i : ℕ} (v : FilledIn wanted entry first table i) where
-    pub filled-passed : wanted i ≡ false → FilledIn wanted entry first table (i + 1)
-    filled-passed e =
-        record {
-          long = v .long;
-          filled = below-more (λ k. wanted k ≡ true → getD table k 0 ≡ entry k) i (v .filled) (λ t. absurd (true≢false (sym t ∙ e)));
-        }
+  module _ {d : A} {wanted : ℕ → Bool} {entry : ℕ → A} {first : List A} where
+    pub filled-begun : FilledIn d wanted entry first first 0
+    filled-begun = record { long = refl; filled = λ k h. absurd (omega arith) }
 
-    pub filled-more : {x : ℕ} → i < length table → x ≡ entry i → FilledIn wanted entry first (set table i x) (i + 1)
-    filled-more {x} h e =
-        record {
-          long = length-set table i x ∙ v .long;
-          filled = below-more (λ k. wanted k ≡ true → getD (set table i x) k 0 ≡ entry k) i
-              (λ k a t. getD-set-other table i k x 0 (omega arith) ∙ v .filled k a t)
-              (λ t. getD-set-same table i x 0 h ∙ e);
-        }
+    module _ {table : List A} {i : ℕ} (v : FilledIn d wanted entry first table i) where
+      pub filled-passed : wanted i ≡ false → FilledIn d wanted entry first table (i + 1)
+      filled-passed e =
+          record {
+            long = v .long;
+            filled = below-more (λ k. wanted k ≡ true → getD table k d ≡ entry k) i (v .filled) (λ t. absurd (true≢false (sym t ∙ e)));
+          }
+
+      pub filled-more : {x : A} → i < length table → x ≡ entry i → FilledIn d wanted entry first (set table i x) (i + 1)
+      filled-more {x} h e =
+          record {
+            long = length-set table i x ∙ v .long;
+            filled = below-more (λ k. wanted k ≡ true → getD (set table i x) k d ≡ entry k) i
+                (λ k a t. getD-set-other table i k x d (omega arith) ∙ v .filled k a t)
+                (λ t. getD-set-same table i x d h ∙ e);
+          }

@@ -1,3 +1,17 @@
 pub mod Seeking
 pub mod Filling
+pub mod Tables
 pub mod Meaning
+pub mod Parting
+pub mod Gathering
+pub mod Counting
+pub mod Coding
+pub mod Covering
+pub mod Left
+pub mod Putting
+pub mod Drawing
+pub mod Painting
+pub mod Turning
+pub mod Rulewise
+pub mod Deciding
+pub mod Tabling

@@ -1,15 +1,22 @@
 // The call over lent columns: all that is lent for writing holds the complete result, or zeros.
+mod ahead;
 mod columns;
+mod counts;
+mod gathered;
 mod marks;
+mod numbers;
 mod operands;
+mod planned;
 mod rules;
 
 use crate::columns::clear_columns;
 use crate::columns::settle_columns;
+use charging::Charged;
 use checks::Checked;
 use model::Answer;
 use model::Rules;
 use model::Span;
+use model::Test;
 ghost use mathlib.Core.Path.{_≡_};
 ghost use Rattle.model.specs.Answer.{summary};
 ghost use Rattle.model.specs.Job.{result};
@@ -17,6 +24,16 @@ ghost use Rattle.model.specs.Columns.{columnsOf};
 ghost use Rattle.laws.specs.Demands.{lengthsOf};
 ghost use Rattle.checks.specs.Checked.{cellColumns, jobOf};
 ghost use Rattle.turns.specs.Lent.{lent};
+
+// What a rule is decided to be: what the charges come to with its own, the test by which it paints, how many regions it paints, and 1 or 0
+// for a rule that counts as deferred and as simplified.
+struct Decided {
+    charged: Charged,
+    test: Test,
+    count: usize,
+    deferred: u64,
+    simplified: u64,
+}
 
 // Port of resolve_conditional_paints (conditional.rs) over columns: the checks, the rules, and what becomes of them under the limit.
 pub fn resolve_conditional_paints(

@@ -1,144 +1,322 @@
-// What a rule that was judged leaves in the columns: the second of the two phases of a rule.
-use judge::Said;
-use lent::at_u32;
-use model::Outcome;
-use model::Paint;
-ghost use Prim.Native.Nat.{_≤_};
+// What a rule leaves in the columns, by the regions that it paints: its marks, each column by itself, its bars and its stops.
+use model::Rgb;
+use model::Test;
+use ratio::normalized_ppm;
+use ratio::packed;
+use ratio::scale2_colour;
+use ratio::scale3_colour;
+ghost use Prim.Native.Nat.{ℕ, _<_, _≤_, _-_, min};
 ghost use mathlib.Core.Path.{_≡_};
-ghost use lib.ListN.{length, set};
-ghost use Rattle.model.specs.Run.{marksFrom};
-ghost use Rattle.turns.specs.Emit.{outcomesOf, markColumns, markAt, putMark, putMarks, barColumns, drawBar, drawBars, stopAt, stops};
+ghost use mathlib.Core.Bool.{Bool, cond};
+ghost use mathlib.Core.List.{List, map};
+ghost use lib.Ieee.{Float, nan, le};
+ghost use lib.ListN.{length, getD, replicate};
+ghost use lib.Seq.{sets};
+ghost use Rattle.model.specs.Ratio.{ratio, interpolateRgb, packed};
+ghost use Rattle.plans.specs.Plans.{isBarTest};
+ghost use Rattle.hits.specs.Painted.{kindBy, fillBy, colourBy, ppmBy};
+ghost use Rattle.turns.specs.Emit.{markColumns, hitMark, putMarks, barColumns, drawHit, drawHits, stopHits};
 
-// Past the end of a column nothing is written.
-fn put_u32(s: &mut [u32], i: usize, v: u32)
-    ensures { λ _. ⌜ now (s .exit) ≡ set (now (s .entry)) i v ⌝ }
+// ---- one column of the marks from place n on; past its end nothing is written
+
+// How many of the marks there is space for.
+fn space_for(count: usize, n: usize, len: usize) -> usize
+    ensures { λ r. ⌜ r ≡ min count (len - n) ⌝ }
 {
-    if i < s.len() {
-        s[i] = v;
+    if len <= n {
+        return 0;
+    }
+    if count < len - n { count } else { len - n }
+}
+
+// The regions themselves.
+fn put_regions(hits: &[u16], n: usize, column: &mut [u32])
+    ensures { λ _. ⌜ now (column .exit) ≡ sets (now (column .entry)) n (now (hits .entry)) ⌝ }
+{
+    let end = space_for(hits.len(), n, column.len());
+    let mut k = 0;
+    while k < end {
+        column[n + k] = hits[k] as u32;
+        k += 1;
     }
 }
 
-// A mark at place n of the five columns.
-fn put_mark(
-    region: u32,
-    rule: u8,
-    paint: Paint,
+// One value for all marks.
+fn put_same(value: u32, count: usize, n: usize, column: &mut [u32])
+    ensures { λ _. ⌜ now (column .exit) ≡ sets (now (column .entry)) n (replicate count value) ⌝ }
+{
+    let end = space_for(count, n, column.len());
+    let mut k = 0;
+    while k < end {
+        column[n + k] = value;
+        k += 1;
+    }
+}
+
+// The ratios of the regions' numbers.
+fn put_ratios(values: &[f64], hits: &[u16], least: f64, greatest: f64, n: usize, column: &mut [u32])
+    requires { ⌜ ((k : ℕ) → k < length (now hits) → getD (now hits) k 0 < length (now values)) ⌝ }
+    ensures { λ _. ⌜ now (column .exit) ≡ sets (now (column .entry)) n
+        (map (λ h. ratio (getD (now (values .entry)) h nan) least greatest) (now (hits .entry))) ⌝ }
+{
+    let end = space_for(hits.len(), n, column.len());
+    let mut k = 0;
+    while k < end {
+        let x = values[hits[k] as usize];
+        column[n + k] = normalized_ppm(x, least, greatest);
+        k += 1;
+    }
+}
+
+// The colours of a scale of two.
+fn put_scale2(
+    values: &[f64],
+    hits: &[u16],
+    least: f64,
+    greatest: f64,
+    first: Rgb,
+    last: Rgb,
     n: usize,
+    column: &mut [u32],
+)
+    requires { ⌜ ((k : ℕ) → k < length (now hits) → getD (now hits) k 0 < length (now values)) ⌝ }
+    ensures { λ _. ⌜ now (column .exit) ≡ sets (now (column .entry)) n (map (λ h. packed (interpolateRgb first last
+        (ratio (getD (now (values .entry)) h nan) least greatest))) (now (hits .entry))) ⌝ }
+{
+    let end = space_for(hits.len(), n, column.len());
+    let mut k = 0;
+    while k < end {
+        let x = values[hits[k] as usize];
+        column[n + k] = scale2_colour(x, least, greatest, first, last);
+        k += 1;
+    }
+}
+
+// The colours of a scale of three.
+fn put_scale3(
+    values: &[f64],
+    hits: &[u16],
+    least: f64,
+    midpoint: f64,
+    greatest: f64,
+    first: Rgb,
+    middle: Rgb,
+    last: Rgb,
+    n: usize,
+    column: &mut [u32],
+)
+    requires { ⌜ ((k : ℕ) → k < length (now hits) → getD (now hits) k 0 < length (now values)) ⌝ }
+    ensures { λ _. ⌜ now (column .exit) ≡ sets (now (column .entry)) n (map (λ h. packed (cond (le (getD (now (values .entry)) h nan)
+        midpoint) (interpolateRgb first middle (ratio (getD (now (values .entry)) h nan) least midpoint)) (interpolateRgb middle last
+        (ratio (getD (now (values .entry)) h nan) midpoint greatest)))) (now (hits .entry))) ⌝ }
+{
+    let end = space_for(hits.len(), n, column.len());
+    let mut k = 0;
+    while k < end {
+        let x = values[hits[k] as usize];
+        column[n + k] = scale3_colour(x, least, midpoint, greatest, first, middle, last);
+        k += 1;
+    }
+}
+
+// ---- the fields of a mark
+
+fn kind_by(test: Test, imported: bool) -> u32
+    ensures { λ r. ⌜ r ≡ kindBy test imported ⌝ }
+{
+    match test {
+        Test::DataBar { .. } => { if imported { 4 } else { 3 } }
+        _ => { if imported { 2 } else { 1 } }
+    }
+}
+
+// The colour of a test that has one for all its marks; of a scale 0.
+fn fill_by(test: Test) -> u32
+    ensures { λ r. ⌜ r ≡ fillBy test ⌝ }
+{
+    match test {
+        Test::CellIs { fill, .. } => packed(fill),
+        Test::ColorScale2 { .. } => 0,
+        Test::ColorScale3 { .. } => 0,
+        Test::DataBar { color, .. } => packed(color),
+        Test::TopBottom { fill, .. } => packed(fill),
+        Test::AboveAverage { fill, .. } => packed(fill),
+        Test::DuplicateValues { fill, .. } => packed(fill),
+        Test::Expression { fill, .. } => packed(fill),
+    }
+}
+
+fn put_colours(
+    test: Test,
+    imported: bool,
+    values: &[f64],
+    hits: &[u16],
+    n: usize,
+    column: &mut [u32],
+)
+    requires { ⌜ ((k : ℕ) → k < length (now hits) → getD (now hits) k 0 < length (now values)) ⌝ }
+    ensures { λ _. ⌜ now (column .exit) ≡ sets (now (column .entry)) n
+        (map (λ h. colourBy test imported (getD (now (values .entry)) h nan)) (now (hits .entry))) ⌝ }
+{
+    if let Test::DataBar { color, .. } = test {
+        put_same(packed(color), hits.len(), n, column);
+        return;
+    }
+    if imported {
+        put_same(0, hits.len(), n, column);
+        return;
+    }
+    match test {
+        Test::ColorScale2 {
+            min,
+            max,
+            least,
+            greatest,
+        } => put_scale2(values, hits, least, greatest, min, max, n, column),
+        Test::ColorScale3 {
+            min,
+            mid,
+            max,
+            least,
+            midpoint,
+            greatest,
+        } => put_scale3(
+            values,
+            hits,
+            least,
+            midpoint,
+            greatest,
+            min,
+            mid,
+            max,
+            n,
+            column,
+        ),
+        _ => put_same(fill_by(test), hits.len(), n, column),
+    }
+}
+
+fn put_ppms(test: Test, values: &[f64], hits: &[u16], n: usize, column: &mut [u32])
+    requires { ⌜ ((k : ℕ) → k < length (now hits) → getD (now hits) k 0 < length (now values)) ⌝ }
+    ensures { λ _. ⌜ now (column .exit) ≡ sets (now (column .entry)) n
+        (map (λ h. ppmBy test (getD (now (values .entry)) h nan)) (now (hits .entry))) ⌝ }
+{
+    if let Test::DataBar {
+        least,
+        greatest,
+        ..
+    } = test {
+        put_ratios(values, hits, least, greatest, n, column);
+        return;
+    }
+    put_same(0, hits.len(), n, column);
+}
+
+// The marks of a rule from place n on.
+pub(crate) fn put_marks(
+    test: Test,
+    imported: bool,
+    rule: u8,
+    n: usize,
+    values: &[f64],
+    hits: &[u16],
     regions: &mut [u32],
     rules: &mut [u32],
     kinds: &mut [u32],
     colours: &mut [u32],
     ppms: &mut [u32],
 )
+    requires { ⌜ ((k : ℕ) → k < length (now hits) → getD (now hits) k 0 < length (now values)) ⌝ }
     ensures { λ _. ⌜ markColumns (now (regions .exit)) (now (rules .exit)) (now (kinds .exit)) (now (colours .exit)) (now (ppms .exit))
-        ≡ putMark (markColumns (now (regions .entry)) (now (rules .entry)) (now (kinds .entry)) (now (colours .entry)) (now (ppms .entry)))
-        n (markAt region rule paint) ⌝ }
+        ≡ putMarks (markColumns (now (regions .entry)) (now (rules .entry)) (now (kinds .entry)) (now (colours .entry)) (now (ppms .entry)))
+        n (map (hitMark test imported (now (values .entry)) rule) (now (hits .entry))) ⌝ }
 {
-    put_u32(regions, n, region);
-    put_u32(rules, n, rule as u32);
-    put_u32(kinds, n, paint.kind);
-    put_u32(colours, n, paint.colour);
-    put_u32(ppms, n, paint.ppm);
+    put_regions(hits, n, regions);
+    put_same(rule as u32, hits.len(), n, rules);
+    put_same(kind_by(test, imported), hits.len(), n, kinds);
+    put_colours(test, imported, values, hits, n, colours);
+    put_ppms(test, values, hits, n, ppms);
 }
 
-// The marks of a rule from place n on, and how many they are. A mark that does not fit is counted and not written.
-pub(crate) fn emit_marks(
-    outcomes: [Said; 1024],
-    rule: u8,
-    n: u32,
-    regions: &mut [u32],
-    rules: &mut [u32],
-    kinds: &mut [u32],
-    colours: &mut [u32],
-    ppms: &mut [u32],
-) -> u32
-    ensures count { λ r. ⌜ r ≡ length (marksFrom rule 0 (outcomesOf outcomes)) ⌝ }
-    ensures marks { λ _. ⌜ markColumns (now (regions .exit)) (now (rules .exit)) (now (kinds .exit)) (now (colours .exit))
-        (now (ppms .exit)) ≡ putMarks (markColumns (now (regions .entry)) (now (rules .entry)) (now (kinds .entry)) (now (colours .entry))
-        (now (ppms .entry))) n (marksFrom rule 0 (outcomesOf outcomes)) ⌝ }
-    ensures few { λ r. ⌜ r ≤ 1024 ⌝ }
-{
-    let mut count = 0;
-    let mut i = 0;
-    while i < 1024 {
-        let said = outcomes[i];
-        let outcome = said.outcome;
-        if let Outcome::Painted(paint) = outcome {
-            let at = n as usize + count as usize;
-            put_mark(
-                i as u32,
-                rule,
-                paint,
-                at,
-                regions,
-                rules,
-                kinds,
-                colours,
-                ppms,
-            );
-            count += 1;
-            i += 1;
-            continue;
-        }
-        i += 1;
-    }
-    count
-}
+// ---- bars and stops
 
 // The bar of a region, where it has none yet. Port of the bars of apply_conditional_paint (conditional.rs).
-fn draw_bar(outcome: Outcome, rule: u8, region: usize, rules: &mut [u32], ppms: &mut [u32])
+fn draw_bar(rule: u8, ppm: u32, region: usize, rules: &mut [u32], ppms: &mut [u32])
     ensures { λ _. ⌜ barColumns (now (rules .exit)) (now (ppms .exit))
-        ≡ drawBar rule region outcome (barColumns (now (rules .entry)) (now (ppms .entry))) ⌝ }
+        ≡ drawHit rule ppm region (barColumns (now (rules .entry)) (now (ppms .entry))) ⌝ }
 {
-    let Outcome::Painted(paint) = outcome else {
-        return;
-    };
-    if paint.kind < 3 {
+    if lent::at_u32(rules, region) != 0 {
         return;
     }
-    if at_u32(rules, region) != 0 {
-        return;
+    if region < rules.len() {
+        rules[region] = rule as u32 + 1;
     }
-    put_u32(rules, region, rule as u32 + 1);
-    put_u32(ppms, region, paint.ppm);
-}
-
-// The bars of a rule, in the columns of the bars' rules and ppms: a region keeps its first one.
-pub(crate) fn draw_bars(outcomes: [Said; 1024], rule: u8, rules: &mut [u32], ppms: &mut [u32])
-    ensures { λ _. ⌜ barColumns (now (rules .exit)) (now (ppms .exit))
-        ≡ drawBars rule 0 (outcomesOf outcomes) (barColumns (now (rules .entry)) (now (ppms .entry))) ⌝ }
-{
-    let mut i = 0;
-    while i < 1024 {
-        let said = outcomes[i];
-        let outcome = said.outcome;
-        draw_bar(outcome, rule, i, rules, ppms);
-        i += 1;
+    if region < ppms.len() {
+        ppms[region] = ppm;
     }
 }
 
-// The stop flag of a region that gets a mark. Port of the stops of apply_conditional_paint (conditional.rs).
-fn stop_region(outcome: Outcome, stop: bool, region: usize, flags: &mut [u8])
-    ensures { λ _. ⌜ now (flags .exit) ≡ stopAt stop region outcome (now (flags .entry)) ⌝ }
+// The bars of a rule: a region keeps its first one.
+fn draw_hits(
+    rule: u8,
+    values: &[f64],
+    hits: &[u16],
+    least: f64,
+    greatest: f64,
+    rules: &mut [u32],
+    ppms: &mut [u32],
+)
+    requires { ⌜ ((k : ℕ) → k < length (now hits) → getD (now hits) k 0 < length (now values)) ⌝ }
+    ensures { λ _. ⌜ barColumns (now (rules .exit)) (now (ppms .exit))
+        ≡ drawHits rule (λ h. ratio (getD (now (values .entry)) h nan) least greatest) (now (hits .entry))
+        (barColumns (now (rules .entry)) (now (ppms .entry))) ⌝ }
 {
-    if let Outcome::Painted(_) = outcome {
-        if stop {
-            if region < flags.len() {
-                flags[region] = 1;
-            }
+    let mut k = 0;
+    while k < hits.len() {
+        let region = hits[k] as usize;
+        let ppm = normalized_ppm(values[region], least, greatest);
+        draw_bar(rule, ppm, region, rules, ppms);
+        k += 1;
+    }
+}
+
+// The same of any test: only a bar test has bars.
+pub(crate) fn draw_bars(
+    test: Test,
+    rule: u8,
+    values: &[f64],
+    hits: &[u16],
+    rules: &mut [u32],
+    ppms: &mut [u32],
+)
+    requires { ⌜ ((k : ℕ) → k < length (now hits) → getD (now hits) k 0 < length (now values)) ⌝ }
+    ensures { λ _. ⌜ barColumns (now (rules .exit)) (now (ppms .exit)) ≡ cond (isBarTest test) (drawHits rule
+        (λ h. ppmBy test (getD (now (values .entry)) h nan)) (now (hits .entry)) (barColumns (now (rules .entry)) (now (ppms .entry))))
+        (barColumns (now (rules .entry)) (now (ppms .entry))) ⌝ }
+{
+    if let Test::DataBar {
+        least,
+        greatest,
+        ..
+    } = test {
+        draw_hits(rule, values, hits, least, greatest, rules, ppms);
+    }
+}
+
+// The stop flags after a rule: a mark of a rule with stop-if-true stops its region. Port of the stops of apply_conditional_paint
+// (conditional.rs).
+pub(crate) fn stop_regions(stop: bool, hits: &[u16], flags: &mut [u8])
+    ensures { λ _. ⌜ now (flags .exit) ≡ cond stop (stopHits (now (hits .entry)) (now (flags .entry))) (now (flags .entry)) ⌝ }
+{
+    if !stop {
+        return;
+    }
+    let mut k = 0;
+    while k < hits.len() {
+        let region = hits[k] as usize;
+        if region < flags.len() {
+            flags[region] = 1;
         }
-    }
-}
-
-// The stop flags after a rule: a mark of a rule with stop-if-true stops its region.
-pub(crate) fn stop_regions(outcomes: [Said; 1024], stop: bool, flags: &mut [u8])
-    ensures { λ _. ⌜ now (flags .exit) ≡ stops stop 0 (outcomesOf outcomes) (now (flags .entry)) ⌝ }
-{
-    let mut i = 0;
-    while i < 1024 {
-        let said = outcomes[i];
-        let outcome = said.outcome;
-        stop_region(outcome, stop, i, flags);
-        i += 1;
+        k += 1;
     }
 }

@@ -1,14 +1,17 @@
-// The places of the cells that a rule's operands mean: the first half of resolve_conditional_operand (conditional.rs). The cells rise.
-use charging::Charged;
+// What the operands of a test read as from each region in range: resolve_conditional_operand (conditional.rs). The cells rise.
+use crate::numbers::float_of;
+use crate::numbers::number_named;
+use comparison::uses_second;
+use hits::by_literals;
 use model::A1Reference;
 use model::CellCoordinate;
-use model::CfRule;
 use model::ConditionalOperand;
 use model::Range;
 use model::Referenced;
-use model::Rule;
 use model::Span;
+use model::Test;
 use ranges::in_range;
+use readings::number::finite_reading;
 use references::conditional_reference_coordinate;
 ghost use Prim.Native.Nat.{ℕ, _≤_, _<_};
 ghost use mathlib.Core.Path.{_≡_};
@@ -16,15 +19,17 @@ ghost use mathlib.Core.Bool.{true, false, _&&_};
 ghost use mathlib.Core.List.{List};
 ghost use mathlib.Core.Option.{none};
 ghost use lib.Dec.{ltb};
+ghost use lib.Ieee.{Float, nan};
+ghost use Rattle.model.specs.declared.ConditionalOperand.{ConditionalOperand};
 ghost use lib.ListN.{length, getD};
-ghost use Rattle.charging.specs.declared.Counter.{Counter};
-ghost use Rattle.charging.specs.declared.Charged.{Charged};
-ghost use Rattle.model.specs.Sheet.{sameCoordinate, inRange};
-ghost use Rattle.model.specs.References.{referenceCoordinate};
+ghost use Rattle.model.specs.Sheet.{sameCoordinate};
+ghost use Rattle.model.specs.References.{referenceCoordinate, resolved};
 ghost use Rattle.model.specs.Job.{rises, firstFall};
-ghost use Rattle.cells.specs.Columns.{columns, coordinateAt, entryAt, entryReferenced};
-ghost use Rattle.judge.specs.Judge.{Meant};
-ghost use Rattle.steps.specs.Step.{firstOf, secondOf};
+ghost use Rattle.cells.specs.Columns.{columns, cellsOf, coordinateAt, entryAt, entryReferenced, sheetWith};
+ghost use Rattle.hits.specs.Verdict.{firstOperand, secondOperand};
+ghost use Rattle.hits.specs.Hits.{known, firstAt, secondAt};
+ghost use Rattle.turns.specs.Knowing.{takesFirst, takesSecond, InRange};
+ghost use Rattle.call.specs.Tables.{Numbered, Meant};
 
 // ---- the cell at a coordinate
 
@@ -116,25 +121,26 @@ fn entry_referenced(
     }
 }
 
-// The entries for the cells that a reference means from the regions in range. What one region means mostly stands behind what the region
-// before it means.
+// What a reference reads as from the regions in range. What one region means mostly stands behind what the region before it means.
 fn find_referenced(
     reference: A1Reference,
     range: Range,
     rows: &[u32],
     cols: &[u16],
+    floats: &[f64],
     region_rows: &[u32],
     region_cols: &[u16],
     pool: &[u8],
     sheet: Span,
-    table: &mut [u16],
+    column: &mut [f64],
 )
     requires { ⌜ (firstFall (now rows) (now cols) ≡ none) × (length (now rows) ≤ 1024)
-        × (length (now «region_rows») ≤ length (now table)) ⌝ }
-    ensures { λ _. ⌜ ((i : ℕ) → i < length (now («region_rows» .entry))
-        → inRange range (coordinateAt (now («region_rows» .entry)) (now («region_cols» .entry)) i) ≡ true
-        → getD (now (table .exit)) i 0 ≡ entryReferenced (now (rows .entry)) (now (cols .entry)) (referenceCoordinate (now (pool .entry))
-        sheet range (coordinateAt (now («region_rows» .entry)) (now («region_cols» .entry)) i) reference)) ⌝ }
+        × (length (now «region_rows») ≤ length (now column)) ⌝ }
+    ensures { λ _. ⌜ ((kinds wraps nums ats lens : List ℕ)
+        → Numbered (columns (now (rows .entry)) (now (cols .entry)) kinds wraps nums ats lens) (now (floats .entry))
+        → length (now (rows .entry)) ≡ length (now (floats .entry))
+        → Meant (columns (now (rows .entry)) (now (cols .entry)) kinds wraps nums ats lens) (now (pool .entry)) sheet range
+        (now («region_rows» .entry)) (now («region_cols» .entry)) (ConditionalOperand.Reference reference) (now (column .exit))) ⌝ }
 {
     let mut guess = 0;
     let mut i = 0;
@@ -148,115 +154,202 @@ fn find_referenced(
             continue;
         }
         let entry = entry_referenced(reference, range, target, rows, cols, pool, sheet, guess);
-        table[i] = entry;
+        column[i] = number_named(floats, entry);
         guess = entry as usize;
         i += 1;
     }
 }
 
-// The same of any operand. One that is no reference means no cell, and leaves the table as it is.
+// One number from end to end.
+fn fill(column: &mut [f64], x: f64)
+    ensures { λ _. ⌜ ((i : ℕ) → i < length (now (column .entry)) → getD (now (column .exit)) i nan ≡ x) ⌝ }
+{
+    let mut i = 0;
+    while i < column.len() {
+        column[i] = x;
+        i += 1;
+    }
+}
+
+// The same, where a reference that is absolute in row and column means one cell from every region.
+fn find_reference(
+    reference: A1Reference,
+    range: Range,
+    rows: &[u32],
+    cols: &[u16],
+    floats: &[f64],
+    region_rows: &[u32],
+    region_cols: &[u16],
+    pool: &[u8],
+    sheet: Span,
+    column: &mut [f64],
+)
+    requires { ⌜ (firstFall (now rows) (now cols) ≡ none) × (length (now rows) ≤ 1024)
+        × (length (now «region_rows») ≤ length (now column)) ⌝ }
+    ensures { λ _. ⌜ ((kinds wraps nums ats lens : List ℕ)
+        → Numbered (columns (now (rows .entry)) (now (cols .entry)) kinds wraps nums ats lens) (now (floats .entry))
+        → length (now (rows .entry)) ≡ length (now (floats .entry))
+        → Meant (columns (now (rows .entry)) (now (cols .entry)) kinds wraps nums ats lens) (now (pool .entry)) sheet range
+        (now («region_rows» .entry)) (now («region_cols» .entry)) (ConditionalOperand.Reference reference) (now (column .exit))) ⌝ }
+{
+    if reference.row_absolute & reference.col_absolute {
+        let target = CellCoordinate {
+            row: range.top,
+            col: range.left,
+        };
+        let entry = entry_referenced(reference, range, target, rows, cols, pool, sheet, 0);
+        fill(column, number_named(floats, entry));
+        return;
+    }
+    find_referenced(
+        reference,
+        range,
+        rows,
+        cols,
+        floats,
+        region_rows,
+        region_cols,
+        pool,
+        sheet,
+        column,
+    );
+}
+
+// The same of any operand.
 fn find_operand(
     operand: ConditionalOperand,
     range: Range,
     rows: &[u32],
     cols: &[u16],
+    floats: &[f64],
     region_rows: &[u32],
     region_cols: &[u16],
     pool: &[u8],
     sheet: Span,
-    table: &mut [u16],
+    column: &mut [f64],
 )
     requires { ⌜ (firstFall (now rows) (now cols) ≡ none) × (length (now rows) ≤ 1024)
-        × (length (now «region_rows») ≤ length (now table)) ⌝ }
+        × (length (now «region_rows») ≤ length (now column)) ⌝ }
     ensures { λ _. ⌜ ((kinds wraps nums ats lens : List ℕ)
+        → Numbered (columns (now (rows .entry)) (now (cols .entry)) kinds wraps nums ats lens) (now (floats .entry))
+        → length (now (rows .entry)) ≡ length (now (floats .entry))
         → Meant (columns (now (rows .entry)) (now (cols .entry)) kinds wraps nums ats lens) (now (pool .entry)) sheet range
-        (now («region_rows» .entry)) (now («region_cols» .entry)) operand (now (table .exit))) ⌝ }
+        (now («region_rows» .entry)) (now («region_cols» .entry)) operand (now (column .exit))) ⌝ }
 {
-    if let ConditionalOperand::Reference(reference) = operand {
-        find_referenced(
+    match operand {
+        ConditionalOperand::Literal(x) => fill(column, float_of(finite_reading(x))),
+        ConditionalOperand::Reference(reference) => find_reference(
             reference,
             range,
             rows,
             cols,
+            floats,
             region_rows,
             region_cols,
             pool,
             sheet,
-            table,
-        );
+            column,
+        ),
+        ConditionalOperand::Unread => fill(column, 0.0 / 0.0),
     }
 }
 
-// ---- the operands of a rule
+// ---- the operands of a test
 
-fn first_of(kind: CfRule) -> ConditionalOperand
-    ensures { λ r. ⌜ r ≡ firstOf kind ⌝ }
-{
-    match kind {
-        CfRule::CellIs { first, .. } => first,
-        CfRule::Expression { left, .. } => left,
-        _ => ConditionalOperand::Unread,
-    }
-}
-
-fn second_of(kind: CfRule) -> ConditionalOperand
-    ensures { λ r. ⌜ r ≡ secondOf kind ⌝ }
-{
-    match kind {
-        CfRule::CellIs { second, .. } => second,
-        CfRule::Expression { right, .. } => right,
-        _ => ConditionalOperand::Unread,
-    }
-}
-
-// The tables for both operands. Once a charge is refused no more work is done.
+// Both operands, as far as the test takes them and they are not both literals.
 pub(crate) fn find_operands(
-    rule: Rule,
-    charged: Charged,
+    test: Test,
+    range: Range,
     rows: &[u32],
     cols: &[u16],
+    floats: &[f64],
     region_rows: &[u32],
     region_cols: &[u16],
     pool: &[u8],
     sheet: Span,
-    firsts: &mut [u16],
-    seconds: &mut [u16],
+    firsts: &mut [f64],
+    seconds: &mut [f64],
 )
     requires { ⌜ (firstFall (now rows) (now cols) ≡ none) × (length (now rows) ≤ 1024) × (length (now «region_rows») ≤ length (now firsts))
         × (length (now «region_rows») ≤ length (now seconds)) ⌝ }
-    ensures first { λ _. ⌜ ((counter : Counter) → charged ≡ Charged.Within counter → (kinds wraps nums ats lens : List ℕ)
-        → Meant (columns (now (rows .entry)) (now (cols .entry)) kinds wraps nums ats lens) (now (pool .entry)) sheet (rule .range)
-        (now («region_rows» .entry)) (now («region_cols» .entry)) (firstOf (rule .kind)) (now (firsts .exit))) ⌝ }
-    ensures second { λ _. ⌜ ((counter : Counter) → charged ≡ Charged.Within counter → (kinds wraps nums ats lens : List ℕ)
-        → Meant (columns (now (rows .entry)) (now (cols .entry)) kinds wraps nums ats lens) (now (pool .entry)) sheet (rule .range)
-        (now («region_rows» .entry)) (now («region_cols» .entry)) (secondOf (rule .kind)) (now (seconds .exit))) ⌝ }
+    ensures first { λ _. ⌜ ((kinds wraps nums ats lens : List ℕ) (values : List Float) (founds : List ℕ)
+        → Numbered (columns (now (rows .entry)) (now (cols .entry)) kinds wraps nums ats lens) (now (floats .entry))
+        → length (now (rows .entry)) ≡ length (now (floats .entry)) → takesFirst test ≡ true
+        → InRange range (now («region_rows» .entry)) (now («region_cols» .entry)) (λ i. firstAt (known values (now (firsts .exit))
+        (now (seconds .exit)) founds) test i ≡ resolved (sheetWith (cellsOf (columns (now (rows .entry)) (now (cols .entry)) kinds wraps
+        nums ats lens)) (now (pool .entry)) sheet) range (coordinateAt (now («region_rows» .entry)) (now («region_cols» .entry)) i)
+        (firstOperand test))) ⌝ }
+    ensures second { λ _. ⌜ ((kinds wraps nums ats lens : List ℕ) (values : List Float) (founds : List ℕ)
+        → Numbered (columns (now (rows .entry)) (now (cols .entry)) kinds wraps nums ats lens) (now (floats .entry))
+        → length (now (rows .entry)) ≡ length (now (floats .entry)) → takesSecond test ≡ true
+        → InRange range (now («region_rows» .entry)) (now («region_cols» .entry)) (λ i. secondAt (known values (now (firsts .exit))
+        (now (seconds .exit)) founds) test i ≡ resolved (sheetWith (cellsOf (columns (now (rows .entry)) (now (cols .entry)) kinds wraps
+        nums ats lens)) (now (pool .entry)) sheet) range (coordinateAt (now («region_rows» .entry)) (now («region_cols» .entry)) i)
+        (secondOperand test))) ⌝ }
 {
-    if let Charged::Within(_) = charged {
-        let kind = rule.kind;
-        let range = rule.range;
-        let first = first_of(kind);
-        find_operand(
+    if by_literals(test) {
+        return;
+    }
+    match test {
+        Test::CellIs {
+            op,
             first,
-            range,
-            rows,
-            cols,
-            region_rows,
-            region_cols,
-            pool,
-            sheet,
-            firsts,
-        );
-        let second = second_of(kind);
-        find_operand(
             second,
-            range,
-            rows,
-            cols,
-            region_rows,
-            region_cols,
-            pool,
-            sheet,
-            seconds,
-        );
+            ..
+        } => {
+            find_operand(
+                first,
+                range,
+                rows,
+                cols,
+                floats,
+                region_rows,
+                region_cols,
+                pool,
+                sheet,
+                firsts,
+            );
+            if uses_second(op) {
+                find_operand(
+                    second,
+                    range,
+                    rows,
+                    cols,
+                    floats,
+                    region_rows,
+                    region_cols,
+                    pool,
+                    sheet,
+                    seconds,
+                );
+            }
+        }
+        Test::Expression { left, right, .. } => {
+            find_operand(
+                left,
+                range,
+                rows,
+                cols,
+                floats,
+                region_rows,
+                region_cols,
+                pool,
+                sheet,
+                firsts,
+            );
+            find_operand(
+                right,
+                range,
+                rows,
+                cols,
+                floats,
+                region_rows,
+                region_cols,
+                pool,
+                sheet,
+                seconds,
+            );
+        }
+        _ => {}
     }
 }

@@ -1,23 +1,23 @@
--- Cells from their columns: what is left of them from an index on, the cell at an index, and the cell at a coordinate by its place.
+-- Cells from their columns: how many, what is left of them from an index on, and the cell that an entry of a table of places names.
 -- Assumes nothing.
 use Prim.Native.Nat.{ℕ, zero, suc, _+_, _-_, _≤_, _<_}
 use mathlib.Core.Path.{_≡_, refl, sym, ap, _∙_}
 use mathlib.Core.Bool.{Bool, true, false, cond}
 use mathlib.Core.List.{[], _∷_}
 use mathlib.Core.Option.{Option, none, some}
-use native.Mathlib.Nat.{add-zero, zero-add}
+use native.Mathlib.Nat.{zero-add}
 use native.Mathlib.Numerals.{add-one}
 use native.Mathlib.Omega.{arith}
 use lib.Dec.{ltb}
-use lib.ListN.{length, getD}
+use lib.ListN.{length}
 use borrow.Author.Tests.{lt-ltb, le-ltb}
 use Rattle.model.specs.declared.Cell.{Cell}
 use Rattle.model.specs.declared.CellCoordinate.{CellCoordinate}
-use Rattle.model.specs.Sheet.{CellAt, CellColumns, sameCoordinate, cellAt, cellFrom, cellsFrom}
+use Rattle.model.specs.Sheet.{CellColumns, sameCoordinate, cellAt, cellFrom, cellsFrom}
 use Rattle.cells.specs.Columns.{cellsOf, placeFrom, placeOf, entryAt, cellNamed}
 
 module _ (c : CellColumns) where
-  pub cells-next : (i n : ℕ) → cellsFrom c i (suc n) ≡ cellFrom c i ∷ cellsFrom c (suc i) n
+  cells-next : (i n : ℕ) → cellsFrom c i (suc n) ≡ cellFrom c i ∷ cellsFrom c (suc i) n
   unfolding cellsFrom
   cells-next i n = refl
 
@@ -25,12 +25,6 @@ module _ (c : CellColumns) where
   unfolding cellsFrom
   cells-length i zero = refl
   cells-length i (suc n) = ap suc (cells-length (suc i) n)
-
-  pub cells-at : (i n k : ℕ) (d : CellAt) → k < n → getD (cellsFrom c i n) k d ≡ cellFrom c (i + k)
-  unfolding cellsFrom
-  cells-at i zero k d h = absurd (omega arith)
-  cells-at i (suc n) zero d h = rw add-zero
-  cells-at i (suc n) (suc k) d h = cells-at (suc i) n k d (omega arith) ∙ ap (cellFrom c) (omega arith)
 
   -- what a loop at i has left of n cells
   pub cells-left : (i n : ℕ) → i < n → cellsFrom c i (n - i) ≡ cellFrom c i ∷ cellsFrom c (i + 1) (n - (i + 1))
@@ -58,13 +52,6 @@ module _ (c : CellColumns) where
       cell-or-later (sameCoordinate (cellFrom c i .at) at) i (i + suc n) (placeFrom (c .rows) (c .cols) at (suc i) n) (omega arith)
       (cell-by-place at (suc i) n ∙ ap (λ end. cellBelow end (placeFrom (c .rows) (c .cols) at (suc i) n)) (omega arith))
 
-  module _ (at : CellCoordinate) {i : ℕ} (placed : i ≡ placeOf (c .rows) (c .cols) at) where
-    pub cell-found : i < length (c .rows) → cellAt (cellsOf c) at ≡ some (cellFrom c i .cell)
-    cell-found h = cell-by-place at 0 (length (c .rows)) ∙ rw (zero-add, ← placed, lt-ltb i _ h)
-
-    pub cell-missing : length (c .rows) ≤ i → cellAt (cellsOf c) at ≡ none
-    cell-missing h = cell-by-place at 0 (length (c .rows)) ∙ rw (zero-add, ← placed, le-ltb i _ h)
-
   -- ---- tables of places
 
   below-named : (place : ℕ) (inside : Bool) → ltb place (length (c .rows)) ≡ inside
@@ -87,10 +74,6 @@ module _ (c : CellColumns) where
     pub named-found : i < length (c .rows) → cellNamed c entry ≡ some (cellFrom c i .cell)
     unfolding cellNamed
     named-found h = rw (← named-suc) (rw (lt-ltb i _ h))
-
-    pub named-missing : length (c .rows) ≤ i → cellNamed c entry ≡ none
-    unfolding cellNamed
-    named-missing h = rw (← named-suc) (rw (le-ltb i _ h))
 
   pub named-none : {entry : ℕ} → entry ≡ 0 → cellNamed c entry ≡ none
   unfolding cellNamed

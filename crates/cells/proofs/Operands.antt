@@ -1,36 +1,18 @@
--- What an operand reads as, by its case and by an entry of a table of places, and that a sheet's regions do not count for it.
--- Assumes nothing.
+-- What a reference reads as by an entry of a table of places, and that a sheet's regions do not count for an operand. Assumes nothing.
 use Prim.Native.Nat.{ℕ}
 use mathlib.Core.Path.{_≡_, refl, ap}
 use mathlib.Core.List.{List}
-use lib.Ieee.{Float}
 use Rattle.model.specs.declared.CellCoordinate.{CellCoordinate}
 use Rattle.model.specs.declared.Range.{Range}
 use Rattle.model.specs.declared.A1Reference.{A1Reference}
 use Rattle.model.specs.declared.Referenced.{Referenced}
-use Rattle.model.specs.declared.Reading.{Reading}
 use Rattle.model.specs.declared.Span.{Span}
 use Rattle.model.specs.declared.ConditionalOperand.{ConditionalOperand as Operand}
 use Rattle.model.specs.Sheet.{Sheet, CellColumns}
 use Rattle.model.specs.Readings.{numericOf, numericAt}
-use Rattle.model.specs.References.{referenceCoordinate, numericReferenced, literal, resolved}
+use Rattle.model.specs.References.{referenceCoordinate, numericReferenced, resolved}
 use Rattle.cells.specs.Columns.{cellsOf, entryReferenced, cellNamed, operandNamed, sheetWith}
 use Rattle.cells.proofs.Laws.{entry-named}
-
--- ---- by an entry
-
-module _ (c : CellColumns) {operand : Operand} (entry : ℕ) where
-  pub named-literal : {x : Float} → operand ≡ Operand.Literal x → literal x ≡ operandNamed c operand entry
-  unfolding operandNamed
-  named-literal e = rw e
-
-  pub named-reference : {f : A1Reference} → operand ≡ Operand.Reference f → numericOf (cellNamed c entry) ≡ operandNamed c operand entry
-  unfolding operandNamed
-  named-reference e = rw e
-
-  pub named-unread : operand ≡ Operand.Unread → Reading.Nothing ≡ operandNamed c operand entry
-  unfolding operandNamed
-  named-unread e = rw e
 
 -- what the entry for a reference's cell reads as
 module _ (c : CellColumns) (pool : List ℕ) (name : Span) where
@@ -48,16 +30,6 @@ module _ (c : CellColumns) (pool : List ℕ) (name : Span) where
         → operandNamed c (Operand.Reference f) entry ≡ resolved sheet range target (Operand.Reference f)
     unfolding operandNamed resolved
     meant-reference f entry e = rw e (referenced-named _)
-
-    -- one that is no reference reads as it does whatever the entry
-    pub meant-literal : (x : Float) (entry : ℕ)
-        → operandNamed c (Operand.Literal x) entry ≡ resolved sheet range target (Operand.Literal x)
-    unfolding operandNamed resolved
-    meant-literal x entry = refl
-
-    pub meant-unread : (entry : ℕ) → operandNamed c Operand.Unread entry ≡ resolved sheet range target Operand.Unread
-    unfolding operandNamed resolved
-    meant-unread entry = refl
 
 -- ---- without regions
 

@@ -18,7 +18,7 @@ module _ (rows cols : List ℕ) (at : CellCoordinate) where
   here-or-later i later end true e found h = same-coordinate _ at .0 e
   here-or-later i later end false e found h = found h
 
-  pub place-stands : (i n : ℕ) → placeFrom rows cols at i n < i + n → coordinateAt rows cols (placeFrom rows cols at i n) ≡ at
+  place-stands : (i n : ℕ) → placeFrom rows cols at i n < i + n → coordinateAt rows cols (placeFrom rows cols at i n) ≡ at
   unfolding placeFrom
   place-stands i zero h = absurd (omega arith)
   place-stands i (suc n) h =

@@ -1,18 +1,20 @@
 -- Two held keys compared: by their words, their tags and, of texts with one word, their letters. Assumes nothing.
-use Prim.Native.Nat.{ℕ, _<_}
+use Prim.Native.Nat.{ℕ, _-_, _^_}
 use mathlib.Core.Path.{_≡_, refl, sym, ap, _∙_}
-use mathlib.Core.Bool.{Bool, true, false, cond, Bool·beq}
-use mathlib.Core.List.{List}
+use mathlib.Core.Bool.{Bool, true, false, cond, _&&_, Bool·beq}
+use mathlib.Core.List.{List, [], _∷_}
 use native.Mathlib.Omega.{arith}
-use lib.ListN.{length, getD}
+use lib.Dec.{eqb}
+use lib.ListN.{getD}
 use borrow.Author.Tests.{eqb-true, eq-eqb}
 use Rattle.model.specs.declared.ConditionalValueKey.{ConditionalValueKey as Key}
 use Rattle.model.specs.declared.Span.{Span}
 use Rattle.model.specs.Sheet.{textAt}
 use Rattle.model.specs.Readings.{sameLetters, sameKey, hasKey}
 use Rattle.keys.specs.Held.{codeFrom, codeOf, tagOf, wordOf, spanAt, HeldBy}
-use Rattle.keys.proofs.SameKeys.{differ, not-so, letters-equal}
-use Rattle.keys.proofs.Naming.{padded-at}
+use Rattle.keys.specs.Codes.{lettersOf, rankOf}
+use Rattle.keys.proofs.SameKeys.{differ, not-so, and-first, and-second, letters-equal, letters-same, beq-equal}
+use Rattle.keys.proofs.Naming.{keyed-within, padded-at}
 
 pub tag-none : (k : Key) → tagOf k ≡ 0 → hasKey k ≡ false
 unfolding tagOf hasKey
@@ -28,45 +30,36 @@ tag-some (Key.Text t) h = refl
 tag-some (Key.Bool b) h = refl
 tag-some Key.Nothing h = absurd (h refl)
 
-module _ (pool : List ℕ) where
-  bit-shared : (a b : Bool) → Bool·beq a b ≡ true → _≡_ {A = ℕ} (cond a 1 0) (cond b 1 0)
-  bit-shared true true h = refl
-  bit-shared true false h = differ h
-  bit-shared false true h = differ h
-  bit-shared false false h = refl
+pub span-equal : (s t : Span) → eqb (s .at) (t .at) && eqb (s .len) (t .len) ≡ true → s ≡ t
+span-equal s t h =
+    let at : s .at ≡ t .at = eqb-true _ _ (and-first _ _ h) in
+    let len : s .len ≡ t .len = eqb-true _ _ (and-second (eqb (s .at) (t .at)) _ h) in
+    λ x. record { at = at x; len = len x }
 
-  -- keys that are the same have one word and one tag
+module _ (pool : List ℕ) where
+  -- keys that are the same have one rank: one word, one tag, the same letters
+  pub rank-shared : (k l : Key) → sameKey pool k l ≡ true → rankOf pool k ≡ rankOf pool l
+  unfolding sameKey wordOf codeOf tagOf lettersOf
+  rank-shared (Key.Number a) (Key.Number b) h = ap (λ (n : ℕ). n ∷ 1 ∷ []) (eqb-true a b h)
+  rank-shared (Key.Number a) (Key.Text t) h = differ h
+  rank-shared (Key.Number a) (Key.Bool b) h = differ h
+  rank-shared (Key.Number a) Key.Nothing h = differ h
+  rank-shared (Key.Text s) (Key.Number b) h = differ h
+  rank-shared (Key.Text s) (Key.Text t) h =
+      ap (λ (bs : List ℕ). codeFrom 1 bs ∷ 2 ∷ bs) (letters-equal (textAt pool s) (textAt pool t) h)
+  rank-shared (Key.Text s) (Key.Bool b) h = differ h
+  rank-shared (Key.Text s) Key.Nothing h = differ h
+  rank-shared (Key.Bool a) (Key.Number b) h = differ h
+  rank-shared (Key.Bool a) (Key.Text t) h = differ h
+  rank-shared (Key.Bool a) (Key.Bool b) h = ap (λ (c : Bool). cond c (2 ^ 64 - 1) (2 ^ 64 - 2) ∷ 3 ∷ []) (beq-equal a b h)
+  rank-shared (Key.Bool a) Key.Nothing h = differ h
+  rank-shared Key.Nothing l h = differ h
+
   word-shared : (k l : Key) → sameKey pool k l ≡ true → wordOf pool k ≡ wordOf pool l
-  unfolding sameKey wordOf codeOf
-  word-shared (Key.Number a) (Key.Number b) h = eqb-true a b h
-  word-shared (Key.Number a) (Key.Text t) h = differ h
-  word-shared (Key.Number a) (Key.Bool b) h = differ h
-  word-shared (Key.Number a) Key.Nothing h = differ h
-  word-shared (Key.Text s) (Key.Number b) h = differ h
-  word-shared (Key.Text s) (Key.Text t) h = ap (codeFrom 0) (letters-equal (textAt pool s) (textAt pool t) h)
-  word-shared (Key.Text s) (Key.Bool b) h = differ h
-  word-shared (Key.Text s) Key.Nothing h = differ h
-  word-shared (Key.Bool a) (Key.Number b) h = differ h
-  word-shared (Key.Bool a) (Key.Text t) h = differ h
-  word-shared (Key.Bool a) (Key.Bool b) h = bit-shared a b h
-  word-shared (Key.Bool a) Key.Nothing h = differ h
-  word-shared Key.Nothing l h = differ h
+  word-shared k l h = cc (rank-shared k l h)
 
   tag-shared : (k l : Key) → sameKey pool k l ≡ true → tagOf k ≡ tagOf l
-  unfolding sameKey tagOf
-  tag-shared (Key.Number a) (Key.Number b) h = refl
-  tag-shared (Key.Number a) (Key.Text t) h = differ h
-  tag-shared (Key.Number a) (Key.Bool b) h = differ h
-  tag-shared (Key.Number a) Key.Nothing h = differ h
-  tag-shared (Key.Text s) (Key.Number b) h = differ h
-  tag-shared (Key.Text s) (Key.Text t) h = refl
-  tag-shared (Key.Text s) (Key.Bool b) h = differ h
-  tag-shared (Key.Text s) Key.Nothing h = differ h
-  tag-shared (Key.Bool a) (Key.Number b) h = differ h
-  tag-shared (Key.Bool a) (Key.Text t) h = differ h
-  tag-shared (Key.Bool a) (Key.Bool b) h = refl
-  tag-shared (Key.Bool a) Key.Nothing h = differ h
-  tag-shared Key.Nothing l h = differ h
+  tag-shared k l h = cc (rank-shared k l h)
 
   text-compared : (k l : Key) (s t : Span) → tagOf k ≡ 2 → tagOf l ≡ 2 → ((u : Span) → k ≡ Key.Text u → u ≡ s)
       → ((u : Span) → l ≡ Key.Text u → u ≡ t) → sameLetters (textAt pool s) (textAt pool t) ≡ sameKey pool k l
@@ -79,7 +72,7 @@ module _ (pool : List ℕ) where
   text-compared (Key.Bool a) l s t p q f g = absurd (omega arith)
   text-compared Key.Nothing l s t p q f g = absurd (omega arith)
 
-  bit-told : (a b : Bool) → _≡_ {A = ℕ} (cond a 1 0) (cond b 1 0) → true ≡ Bool·beq a b
+  bit-told : (a b : Bool) → _≡_ {A = ℕ} (cond a (2 ^ 64 - 1) (2 ^ 64 - 2)) (cond b (2 ^ 64 - 1) (2 ^ 64 - 2)) → true ≡ Bool·beq a b
   bit-told true true h = refl
   bit-told true false h = absurd (omega arith)
   bit-told false true h = absurd (omega arith)
@@ -109,6 +102,10 @@ module _ (pool : List ℕ) where
     unfolding tagOf
     held-tag i = rw (v .tagged) (padded-at tagOf refl ks i)
 
+    pub held-span : (i : ℕ) (t : Span) → getD ks i Key.Nothing ≡ Key.Text t → t ≡ spanAt ats lens i
+    unfolding hasKey
+    held-span i t e = v .spanned i (keyed-within ks i (rw e)) t e
+
     module _ (i j : ℕ) where
       pub words-differ : (getD words j 0 ≡ getD words i 0 → ⊥) → false ≡ sameKey pool (getD ks j Key.Nothing) (getD ks i Key.Nothing)
       words-differ n = not-so _ (λ h. n (held-word j ∙ word-shared _ _ h ∙ sym (held-word i)))
@@ -116,11 +113,18 @@ module _ (pool : List ℕ) where
       pub tags-differ : (getD tags j 0 ≡ getD tags i 0 → ⊥) → false ≡ sameKey pool (getD ks j Key.Nothing) (getD ks i Key.Nothing)
       tags-differ n = not-so _ (λ h. n (held-tag j ∙ tag-shared _ _ h ∙ sym (held-tag i)))
 
-      pub texts-compared : i < length ks → j < length ks → getD tags j 0 ≡ getD tags i 0 → getD tags i 0 ≡ 2
+      pub texts-compared : getD tags j 0 ≡ getD tags i 0 → getD tags i 0 ≡ 2
           → sameLetters (textAt pool (spanAt ats lens j)) (textAt pool (spanAt ats lens i))
           ≡ sameKey pool (getD ks j Key.Nothing) (getD ks i Key.Nothing)
-      texts-compared h k e t =
-          text-compared _ _ _ _ (sym (held-tag j) ∙ e ∙ t) (sym (held-tag i) ∙ t) (v .spanned j k) (v .spanned i h)
+      texts-compared e t = text-compared _ _ _ _ (sym (held-tag j) ∙ e ∙ t) (sym (held-tag i) ∙ t) (held-span j) (held-span i)
+
+      -- a text is the same as one at its own place
+      pub places-compared : spanAt ats lens j ≡ spanAt ats lens i → getD tags j 0 ≡ getD tags i 0 → getD tags i 0 ≡ 2
+          → true ≡ sameKey pool (getD ks j Key.Nothing) (getD ks i Key.Nothing)
+      places-compared p e t =
+          sym (letters-same (textAt pool (spanAt ats lens j)))
+          ∙ ap (λ (s : Span). sameLetters (textAt pool (spanAt ats lens j)) (textAt pool s)) p
+          ∙ texts-compared e t
 
       pub others-compared : getD words j 0 ≡ getD words i 0 → getD tags j 0 ≡ getD tags i 0 → (getD tags i 0 ≡ 2 → ⊥)
           → hasKey (getD ks i Key.Nothing) ≡ true → true ≡ sameKey pool (getD ks j Key.Nothing) (getD ks i Key.Nothing)

@@ -7,14 +7,11 @@ use native.Mathlib.Omega.{arith}
 use lib.ListN.{length, getD, take, set, replicate, length-map}
 use lib.Seq.{take-suc, take-all, set-at, length-take-le}
 use Rattle.model.specs.declared.ConditionalValueKey.{ConditionalValueKey as Key}
-use Rattle.model.specs.declared.Range.{Range}
-use Rattle.model.specs.Sheet.{CellColumns}
+use Rattle.model.specs.declared.Span.{Span}
 use Rattle.model.specs.Readings.{hasKey}
-use Rattle.keys.specs.declared.KeyColumns.{KeyColumns}
-use Rattle.keys.specs.Names.{keysFrom, nameOf, padded, namesOf}
-use Rattle.keys.specs.Held.{tagOf, wordOf, HeldBy, heldKeys}
+use Rattle.keys.specs.Names.{nameOf, padded, namesOf}
+use Rattle.keys.specs.Held.{tagOf, wordOf, spanAt, HeldBy}
 use Rattle.keys.proofs.Naming.{mapped-at, name-none}
-use Rattle.keys.proofs.Keys.{texts-spanned}
 
 -- ---- a column filled from the front
 
@@ -33,7 +30,7 @@ module _ {xs : List ℕ} where
         ap (λ (l : List ℕ). set l i x) (rw more at (v .filled)) ∙ set-at (take i xs) 0 _ x i (length-take-le i xs (omega arith)) in
         record { filled = stored ∙ rw (add-one, take-suc xs i 0, append-assoc, e) }
 
-    pub filled-ended : i ≡ length xs → a ≡ padded xs
+    filled-ended : i ≡ length xs → a ≡ padded xs
     filled-ended e = v .filled ∙ rw (take-all i xs (omega arith), e)
 
 -- ---- both columns
@@ -44,8 +41,8 @@ pub record Holding (pool : List ℕ) (ks : List Key) (tags words : List ℕ) (i 
   pub within : i ≤ length ks
 
 module _ {pool : List ℕ} {ks : List Key} where
-  pub holding-begun : Holding pool ks (replicate 1024 0) (replicate 1024 0) 0
-  holding-begun = record { tagged = filled-begun; worded = filled-begun; within = omega arith }
+  pub holding-begun : {tags words : List ℕ} → tags ≡ replicate 1024 0 → words ≡ replicate 1024 0 → Holding pool ks tags words 0
+  holding-begun t w = record { tagged = rw t filled-begun; worded = rw w filled-begun; within = omega arith }
 
   module _ {tags words : List ℕ} {i : ℕ} (v : Holding pool ks tags words i) where
     pub holding-more : {k : Key} {t w : ℕ} → i < length ks → i < 1024 → k ≡ getD ks i Key.Nothing → t ≡ tagOf k → w ≡ wordOf pool k
@@ -58,23 +55,20 @@ module _ {pool : List ℕ} {ks : List Key} where
           within = omega arith;
         }
 
-    pub holding-ended : length ks ≤ i → record { tags = tags; words = words } ≡ heldKeys pool ks
-    unfolding heldKeys
-    holding-ended h =
-        let all : i ≡ length ks = omega (arith, v .within) in
-        rw (filled-ended (v .tagged) (rw length-map all), filled-ended (v .worded) (rw length-map all))
+    module _ (h : length ks ≤ i) where
+      all : i ≡ length ks
+      all = omega (arith, v .within)
 
--- the columns so made, with the keys of a range's first m cells
-module _ (pool : List ℕ) (range : Range) (c : CellColumns) (m : ℕ) {h : KeyColumns} where
-  pub held-by : h ≡ heldKeys pool (keysFrom pool range c 0 m)
-      → HeldBy pool (h .tags) (h .words) (c .ats) (c .lens) (keysFrom pool range c 0 m)
-  unfolding heldKeys
-  held-by made =
-      record {
-        tagged = ap (λ (k : KeyColumns). k .tags) made;
-        worded = ap (λ (k : KeyColumns). k .words) made;
-        spanned = texts-spanned pool range c m;
-      }
+      tags-ended : tags ≡ padded (map tagOf ks)
+      tags-ended = filled-ended (v .tagged) (rw length-map all)
+
+      words-ended : words ≡ padded (map (wordOf pool) ks)
+      words-ended = filled-ended (v .worded) (rw length-map all)
+
+      pub holding-held : {ats lens : List ℕ}
+          → ((j : ℕ) → j < length ks → (t : Span) → getD ks j Key.Nothing ≡ Key.Text t → t ≡ spanAt ats lens j)
+          → HeldBy pool tags words ats lens ks
+      holding-held s = record { tagged = tags-ended; worded = words-ended; spanned = s }
 
 -- ---- the names
 

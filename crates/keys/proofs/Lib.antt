@@ -4,4 +4,5 @@ pub mod Keys
 pub mod Holding
 pub mod Comparing
 pub mod Searching
-pub mod Places
+pub mod Ordering
+pub mod Along

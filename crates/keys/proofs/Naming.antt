@@ -1,24 +1,20 @@
--- Names: two keys have one name just when they are the same, so that a key's name stands as often among the names as the key among the
--- keys. Assumes nothing.
-use Prim.Native.Nat.{ℕ, zero, suc, _+_, _-_, _≤_, _<_}
+-- Names: two keys have one name just when they are the same. Assumes nothing.
+use Prim.Native.Nat.{ℕ, zero, suc, _-_, _≤_, _<_}
 use mathlib.Core.Path.{_≡_, refl, sym, ap, _∙_}
 use mathlib.Core.Bool.{Bool, true, false, cond}
 use mathlib.Core.List.{List, [], _∷_, _++_, map}
-use native.Mathlib.Nat.{zero-add}
 use native.Mathlib.Omega.{arith}
-use lib.Dec.{eqb, eqb·zero-suc, eqb·suc-zero}
+use lib.Dec.{eqb, eqb·zero-suc}
 use lib.ListN.{length, getD, replicate, List·getD-map}
 use borrow.Author.Tests.{eq-eqb, ne-eqb}
 use Rattle.model.specs.declared.ConditionalValueKey.{ConditionalValueKey as Key}
 use Rattle.model.specs.Readings.{sameKey, hasKey}
-use Rattle.model.specs.Rule.{times}
-use Rattle.ranges.proofs.Laws.{no-key-differs}
-use Rattle.keys.specs.Names.{firstSame, nameOf, padded, namesOf, alike, foundAt}
-use Rattle.keys.proofs.SameKeys.{differ, key-swap, key-itself, key-joined}
+use Rattle.keys.specs.Names.{firstSame, nameOf, padded}
+use Rattle.keys.proofs.SameKeys.{differ, no-key-differs, key-swap, key-itself, key-joined}
 
 -- ---- numbers with zeros after them
 
-zeros-at : (m i : ℕ) → _≡_ {A = ℕ} (getD (replicate m 0) i 0) 0
+pub zeros-at : (m i : ℕ) → _≡_ {A = ℕ} (getD (replicate m 0) i 0) 0
 zeros-at zero i = refl
 zeros-at (suc m) zero = refl
 zeros-at (suc m) (suc i) = zeros-at m i
@@ -36,15 +32,9 @@ module _ (f : Key → ℕ) (none : f Key.Nothing ≡ 0) (ks : List Key) where
   pub padded-at : (i : ℕ) → getD (padded (map f ks)) i 0 ≡ f (getD ks i Key.Nothing)
   padded-at i = zeros-after (map f ks) (1024 - length (map f ks)) i ∙ mapped-at i
 
-zeros-unlike : (x : ℕ) (xs : List ℕ) (m : ℕ) → alike (suc x) (xs ++ replicate m 0) ≡ alike (suc x) xs
-unfolding alike
-zeros-unlike x [] zero = refl
-zeros-unlike x [] (suc m) = rw (eqb·zero-suc, zero-add) (zeros-unlike x [] m)
-zeros-unlike x (y ∷ xs) m = ap (λ (n : ℕ). cond (eqb y (suc x)) 1 0 + n) (zeros-unlike x xs m)
-
 -- ---- the first of the same keys
 
-keyed-within : (ks : List Key) (i : ℕ) → hasKey (getD ks i Key.Nothing) ≡ true → i < length ks
+pub keyed-within : (ks : List Key) (i : ℕ) → hasKey (getD ks i Key.Nothing) ≡ true → i < length ks
 unfolding hasKey
 keyed-within [] i h = differ h
 keyed-within (k ∷ ks) zero h = omega arith
@@ -75,14 +65,29 @@ module _ (pool : List ℕ) where
   here-or-later true x i h = omega arith
   here-or-later false x i h = omega arith
 
-  pub first-within : (ks : List Key) (i : ℕ) → i < length ks → hasKey (getD ks i Key.Nothing) ≡ true
-      → firstSame pool (getD ks i Key.Nothing) ks ≤ i
+  -- no key that is the same stands before the first
+  pub first-below : (k : Key) (ks : List Key) (i : ℕ) → sameKey pool (getD ks i Key.Nothing) k ≡ true → firstSame pool k ks ≤ i
+  unfolding firstSame sameKey
+  first-below k [] i h = differ h
+  first-below k (m ∷ ks) zero h = rw h (omega arith)
+  first-below k (m ∷ ks) (suc i) h = here-or-later (sameKey pool m k) (firstSame pool k ks) i (first-below k ks i h)
+
+  same-or-later : (k m : Key) (ks : List Key) (same : Bool) → sameKey pool m k ≡ same
+      → (firstSame pool k ks < length ks → sameKey pool (getD ks (firstSame pool k ks) Key.Nothing) k ≡ true)
+      → cond same 0 (suc (firstSame pool k ks)) < suc (length ks)
+      → sameKey pool (getD (m ∷ ks) (cond same 0 (suc (firstSame pool k ks))) Key.Nothing) k ≡ true
+  same-or-later k m ks true e later h = e
+  same-or-later k m ks false e later h = later (omega arith)
+
+  -- the first is the same
+  pub first-same : (k : Key) (ks : List Key) → firstSame pool k ks < length ks
+      → sameKey pool (getD ks (firstSame pool k ks) Key.Nothing) k ≡ true
   unfolding firstSame
-  first-within [] i h e = absurd (omega arith)
-  first-within (m ∷ ks) zero h e = rw (key-itself pool m e) (omega arith)
-  first-within (m ∷ ks) (suc i) h e =
-      here-or-later (sameKey pool m (getD ks i Key.Nothing)) (firstSame pool (getD ks i Key.Nothing) ks) i
-      (first-within ks i (omega arith) e)
+  first-same k [] h = absurd (omega arith)
+  first-same k (m ∷ ks) h = same-or-later k m ks (sameKey pool m k) refl (first-same k ks) h
+
+  pub first-within : (ks : List Key) (i : ℕ) → hasKey (getD ks i Key.Nothing) ≡ true → firstSame pool (getD ks i Key.Nothing) ks ≤ i
+  first-within ks i e = first-below (getD ks i Key.Nothing) ks i (key-itself pool (getD ks i Key.Nothing) e)
 
   -- ---- one name
 
@@ -99,13 +104,6 @@ module _ (pool : List ℕ) where
     name-alike (Key.Bool b) = rw keyed (keyed-alike (Key.Bool b) _ refl)
     name-alike Key.Nothing = rw (keyed, no-key-differs pool k) (eqb·zero-suc (firstSame pool k ks))
 
-    names-alike : (ls : List Key) → alike (nameOf pool ks k) (map (nameOf pool ks) ls) ≡ times pool k ls
-    unfolding alike times
-    names-alike [] = refl
-    names-alike (l ∷ ls) = rw (name-alike l, names-alike ls)
-
-  -- ---- how often a key stands among the keys
-
   pub name-keyed : (ks : List Key) (k : Key) → hasKey k ≡ true → nameOf pool ks k ≡ suc (firstSame pool k ks)
   unfolding nameOf
   name-keyed ks k h = rw h
@@ -114,29 +112,10 @@ module _ (pool : List ℕ) where
   unfolding nameOf
   name-none ks k h = rw h
 
-  pub none-found : (k : Key) → hasKey k ≡ false → (ls : List Key) → times pool k ls ≡ 0
-  unfolding times sameKey hasKey
-  none-found (Key.Number a) h ls = differ (sym h)
-  none-found (Key.Text t) h ls = differ (sym h)
-  none-found (Key.Bool b) h ls = differ (sym h)
-  none-found Key.Nothing h [] = refl
-  none-found Key.Nothing h (l ∷ ls) = rw zero-add (none-found Key.Nothing h ls)
+  keyed-first : (ks : List Key) (i : ℕ) → hasKey (getD ks i Key.Nothing) ≡ true → firstSame pool (getD ks i Key.Nothing) ks < length ks
+  keyed-first ks i h = omega (arith, keyed-within ks i h, first-within ks i h)
 
-  abbrev foundBy : List Key → ℕ → ℕ
-  foundBy ks name = cond (eqb name 0) 0 (alike name (namesOf pool ks))
-
-  found-by : (ks : List Key) (i : ℕ) (keyed : Bool) → hasKey (getD ks i Key.Nothing) ≡ keyed
-      → foundBy ks (nameOf pool ks (getD ks i Key.Nothing)) ≡ times pool (getD ks i Key.Nothing) ks
-  found-by ks i true h =
-      let k = getD ks i Key.Nothing in
-      let inside : i < length ks = keyed-within ks i h in
-      let within : firstSame pool k ks < length ks = omega (arith, first-within ks i inside h) in
-      let counted : alike (nameOf pool ks k) (map (nameOf pool ks) ks) ≡ times pool k ks = names-alike ks k h within ks in
-      rw (name-keyed ks k h, eqb·suc-zero)
-      (zeros-unlike (firstSame pool k ks) (map (nameOf pool ks) ks) (1024 - length (map (nameOf pool ks) ks))
-      ∙ rw (name-keyed ks k h) at counted)
-  found-by ks i false h = rw (name-none ks _ h) (sym (none-found _ h ks))
-
-  pub found-at-key : (ks : List Key) (i : ℕ) → foundAt (namesOf pool ks) i ≡ times pool (getD ks i Key.Nothing) ks
-  unfolding hasKey
-  found-at-key ks i = rw (padded-at (nameOf pool ks) (name-none ks Key.Nothing refl) ks i) (found-by ks i _ refl)
+  -- a key has the name of the key at an index just when it is the same
+  pub named-alike : (ks : List Key) (i : ℕ) → hasKey (getD ks i Key.Nothing) ≡ true → (l : Key)
+      → eqb (nameOf pool ks l) (nameOf pool ks (getD ks i Key.Nothing)) ≡ sameKey pool (getD ks i Key.Nothing) l
+  named-alike ks i h l = name-alike ks (getD ks i Key.Nothing) h (keyed-first ks i h) l

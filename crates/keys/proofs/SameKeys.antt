@@ -47,15 +47,19 @@ pub letters-equal : (xs ys : List ℕ) → sameLetters xs ys ≡ true → map lo
 unfolding sameLetters
 letters-equal xs ys h = bytes-equal (map lower xs) (map lower ys) h
 
+pub letters-same : (xs : List ℕ) → sameLetters xs xs ≡ true
+unfolding sameLetters
+letters-same xs = bytes-same (map lower xs)
+
 -- ---- keys
 
-module _ (pool : List ℕ) where
-  beq-equal : (a b : Bool) → Bool·beq a b ≡ true → a ≡ b
-  beq-equal true true h = refl
-  beq-equal true false h = differ h
-  beq-equal false true h = differ h
-  beq-equal false false h = refl
+pub beq-equal : (a b : Bool) → Bool·beq a b ≡ true → a ≡ b
+beq-equal true true h = refl
+beq-equal true false h = differ h
+beq-equal false true h = differ h
+beq-equal false false h = refl
 
+module _ (pool : List ℕ) where
   text-swap : (s t : Span) → sameLetters (textAt pool s) (textAt pool t) ≡ true → (m : Key)
       → sameKey pool m (Key.Text s) ≡ sameKey pool m (Key.Text t)
   unfolding sameKey sameLetters
@@ -85,13 +89,20 @@ module _ (pool : List ℕ) where
   beq-same false = refl
 
   pub key-itself : (k : Key) → hasKey k ≡ true → sameKey pool k k ≡ true
-  unfolding sameKey sameLetters hasKey
+  unfolding sameKey hasKey
   key-itself (Key.Number a) h = eq-eqb a a refl
-  key-itself (Key.Text t) h = bytes-same (map lower (textAt pool t))
+  key-itself (Key.Text t) h = letters-same (textAt pool t)
   key-itself (Key.Bool b) h = beq-same b
   key-itself Key.Nothing h = differ h
 
-  second-keyed : (k l : Key) → sameKey pool k l ≡ true → hasKey l ≡ true
+  pub no-key-differs : (k : Key) → sameKey pool k Key.Nothing ≡ false
+  unfolding sameKey
+  no-key-differs (Key.Number a) = refl
+  no-key-differs (Key.Text t) = refl
+  no-key-differs (Key.Bool b) = refl
+  no-key-differs Key.Nothing = refl
+
+  pub second-keyed : (k l : Key) → sameKey pool k l ≡ true → hasKey l ≡ true
   unfolding sameKey hasKey
   second-keyed k (Key.Number b) h = refl
   second-keyed k (Key.Text t) h = refl
@@ -101,7 +112,7 @@ module _ (pool : List ℕ) where
   second-keyed (Key.Bool b) Key.Nothing h = h
   second-keyed Key.Nothing Key.Nothing h = h
 
-  key-turned : (k l : Key) → sameKey pool k l ≡ true → sameKey pool l k ≡ true
+  pub key-turned : (k l : Key) → sameKey pool k l ≡ true → sameKey pool l k ≡ true
   key-turned k l h = key-swap k l l h ∙ key-itself l (second-keyed k l h)
 
   -- two that are the same as a third

@@ -1,5 +1,5 @@
--- The loops: the code of what is left of a text from a code on, the first same key among those from an index on, and how many of the
--- names are left to count, each come to what the whole comes to. Assumes nothing.
+-- The loops: the code of what is left of a text from a code on, and the first same key among those from an index on, each come to what
+-- the whole comes to. Assumes nothing.
 use Prim.Native.Nat.{ℕ, suc, _+_, _≤_, _<_}
 use mathlib.Core.Path.{_≡_, refl}
 use mathlib.Core.Bool.{Bool, true, false, cond}
@@ -7,13 +7,11 @@ use mathlib.Core.List.{List, map}
 use native.Mathlib.Nat.{zero-add}
 use native.Mathlib.Numerals.{add-one}
 use native.Mathlib.Omega.{arith}
-use lib.Dec.{eqb}
 use lib.ListN.{length, getD, drop, drop-of-length-le}
 use lib.Seq.{drop-cons}
-use borrow.Author.Tests.{eq-eqb, ne-eqb}
 use Rattle.model.specs.declared.ConditionalValueKey.{ConditionalValueKey as Key}
 use Rattle.model.specs.Readings.{lower, sameKey, hasKey}
-use Rattle.keys.specs.Names.{firstSame, alike}
+use Rattle.keys.specs.Names.{firstSame}
 use Rattle.keys.specs.Held.{nextCode, codeFrom, codeOf}
 use Rattle.keys.proofs.SameKeys.{key-itself}
 
@@ -23,7 +21,7 @@ pub record CodeFrom (text : List ℕ) (code i : ℕ) : Type 0 where
   pub left : codeFrom code (map lower (drop i text)) ≡ codeOf text
 
 module _ {text : List ℕ} where
-  pub code-begun : CodeFrom text 0 0
+  pub code-begun : CodeFrom text 1 0
   unfolding codeOf
   code-begun = record { left = refl }
 
@@ -62,31 +60,3 @@ module _ {pool : List ℕ} {k : Key} {ks : List Key} where
     key-ended i e h own keyed =
         let same : sameKey pool (getD ks j Key.Nothing) k ≡ true = rw (e, own) (key-itself pool k keyed) in
         omega (arith, key-found (omega arith) same)
-
--- ---- names counted
-
-pub record Counted (name : ℕ) (names : List ℕ) (found i : ℕ) : Type 0 where
-  pub few : found ≤ i
-  pub left : found + alike name (drop i names) ≡ alike name names
-
-module _ {name : ℕ} {names : List ℕ} where
-  pub counted-begun : Counted name names 0 0
-  counted-begun = record { few = omega arith; left = zero-add _ }
-
-  module _ {found i : ℕ} (v : Counted name names found i) where
-    counted-here : {same : Bool} → i < length names → eqb (getD names i 0) name ≡ same
-        → found + (cond same 1 0 + alike name (drop (i + 1) names)) ≡ alike name names
-    unfolding alike
-    counted-here h e = rw (add-one i) (rw e at (rw (drop-cons names i 0 h) at (v .left)))
-
-    pub counted-more : i < length names → getD names i 0 ≡ name → Counted name names (found + 1) (i + 1)
-    counted-more h e =
-        record { few = omega (arith, v .few); left = omega (arith, counted-here h (eq-eqb _ _ e)) }
-
-    pub counted-same : i < length names → (getD names i 0 ≡ name → ⊥) → Counted name names found (i + 1)
-    counted-same h e =
-        record { few = omega (arith, v .few); left = omega (arith, counted-here h (ne-eqb _ _ e)) }
-
-    pub counted-ended : length names ≤ i → found ≡ alike name names
-    unfolding alike
-    counted-ended h = omega (arith, rw (drop-of-length-le names h) at (v .left))

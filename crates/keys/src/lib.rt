@@ -1,28 +1,24 @@
-// Names of equal keys, worked out once for a range: two cells in range have one name just when they have one key, so that keys are
-// counted by comparing numbers.
+// Codes of equal keys, worked out once for a sheet: two cells have one code just when they have one key, so that keys are counted by
+// comparing numbers.
+mod coding;
+mod sort;
+
+pub use coding::codes;
 use model::ConditionalValueKey;
-use model::Range;
 use model::Span;
-use ranges::key_in;
 use readings::text::lower;
 use readings::text::same_letters;
 use readings::text::text_at;
 ghost use Prim.Native.Nat.{_<_, _≤_, min};
 ghost use mathlib.Core.Path.{_≡_};
-ghost use mathlib.Core.Bool.{true};
+ghost use mathlib.Core.Bool.{true, _&&_};
 ghost use mathlib.Core.List.{List};
+ghost use lib.Dec.{eqb};
 ghost use lib.ListN.{length, getD};
 ghost use Rattle.model.specs.declared.ConditionalValueKey.{ConditionalValueKey};
 ghost use Rattle.model.specs.Readings.{hasKey, sameKey};
-ghost use Rattle.cells.specs.Columns.{columns};
-ghost use Rattle.keys.specs.Names.{keysFrom, firstSame, nameOf, namesOf, alike, foundAt};
-ghost use Rattle.keys.specs.Held.{nextCode, codeOf, tagOf, wordOf, spanAt, HeldBy, heldKeys};
-
-// The keys of the cells, each as a tag and a word.
-struct KeyColumns {
-    tags: [u8; 1024],
-    words: [u64; 1024],
-}
+ghost use Rattle.keys.specs.Names.{firstSame, nameOf};
+ghost use Rattle.keys.specs.Held.{nextCode, codeOf, tagOf, wordOf, spanAt, HeldBy};
 
 // ---- a key as numbers
 
@@ -36,7 +32,7 @@ fn next_code(code: u64, b: u8) -> u64
 fn text_code(text: &[u8]) -> u64
     ensures { λ r. ⌜ r ≡ codeOf (now (text .entry)) ⌝ }
 {
-    let mut code = 0;
+    let mut code = 1;
     let mut i = 0;
     while i < text.len() {
         code = next_code(code, lower(text[i]));
@@ -56,6 +52,7 @@ fn tag(key: ConditionalValueKey) -> u8
     }
 }
 
+// A bool's word is no finite number's bits and no text's code, and an empty text's is not that of the number 0.
 fn word(key: ConditionalValueKey, pool: &[u8]) -> u64
     ensures { λ r. ⌜ r ≡ wordOf (now (pool .entry)) key ⌝ }
 {
@@ -64,9 +61,9 @@ fn word(key: ConditionalValueKey, pool: &[u8]) -> u64
         ConditionalValueKey::Text(span) => text_code(text_at(pool, span)),
         ConditionalValueKey::Bool(b) => {
             if b {
-                return 1;
+                return 0xffff_ffff_ffff_ffff;
             }
-            0
+            0xffff_ffff_ffff_fffe
         }
         ConditionalValueKey::Nothing => 0,
     }
@@ -82,34 +79,6 @@ fn cell_count(rows: &[u32]) -> usize
     1024
 }
 
-fn held(
-    range: Range,
-    rows: &[u32],
-    cols: &[u16],
-    kinds: &[u8],
-    wraps: &[u8],
-    nums: &[u64],
-    ats: &[u32],
-    lens: &[u32],
-    pool: &[u8],
-) -> KeyColumns
-    ensures { λ r. ⌜ r ≡ heldKeys (now (pool .entry)) (keysFrom (now (pool .entry)) range (columns (now (rows .entry)) (now (cols .entry))
-        (now (kinds .entry)) (now (wraps .entry)) (now (nums .entry)) (now (ats .entry)) (now (lens .entry)))
-        0 (min (length (now (rows .entry))) 1024)) ⌝ }
-{
-    let n = cell_count(rows);
-    let mut tags = [0; 1024];
-    let mut words = [0; 1024];
-    let mut i = 0;
-    while i < n {
-        let key = key_in(range, rows, cols, kinds, wraps, nums, ats, lens, pool, i);
-        tags[i] = tag(key);
-        words[i] = word(key, pool);
-        i += 1;
-    }
-    KeyColumns { tags, words }
-}
-
 // ---- keys compared where they are held
 
 fn span_at(ats: &[u32], lens: &[u32], i: usize) -> Span
@@ -121,8 +90,14 @@ fn span_at(ats: &[u32], lens: &[u32], i: usize) -> Span
     }
 }
 
+fn same_span(a: Span, b: Span) -> bool
+    ensures { λ r. ⌜ r ≡ eqb (a .at) (b .at) && eqb (a .len) (b .len) ⌝ }
+{
+    a.at == b.at && a.len == b.len
+}
+
 // Whether the keys at two indices are the same, where there is one at the first. The letters of two texts are read only if their words
-// are the same.
+// are the same and they are not at one place.
 fn same_held(
     tags: &[u8],
     words: &[u64],
@@ -133,7 +108,7 @@ fn same_held(
     j: usize,
 ) -> bool
     ensures { λ r. ⌜ ((ks : List ConditionalValueKey) → HeldBy (now (pool .entry)) (now (tags .entry)) (now (words .entry))
-        (now (ats .entry)) (now (lens .entry)) ks → i < length ks → j < length ks → hasKey (getD ks i ConditionalValueKey.Nothing) ≡ true
+        (now (ats .entry)) (now (lens .entry)) ks → hasKey (getD ks i ConditionalValueKey.Nothing) ≡ true
         → r ≡ sameKey (now (pool .entry)) (getD ks j ConditionalValueKey.Nothing) (getD ks i ConditionalValueKey.Nothing)) ⌝ }
 {
     if lent::at_u64(words, j) != lent::at_u64(words, i) {
@@ -146,6 +121,9 @@ fn same_held(
     if kind == 2 {
         let one = span_at(ats, lens, j);
         let other = span_at(ats, lens, i);
+        if same_span(one, other) {
+            return true;
+        }
         return same_letters(text_at(pool, one), text_at(pool, other));
     }
     true
@@ -169,7 +147,7 @@ fn first_same(tags: &[u8], words: &[u64], ats: &[u32], lens: &[u32], pool: &[u8]
 }
 
 // The name of the key at an index.
-fn name_at(tags: &[u8], words: &[u64], ats: &[u32], lens: &[u32], pool: &[u8], i: usize) -> u64
+fn name_at(tags: &[u8], words: &[u64], ats: &[u32], lens: &[u32], pool: &[u8], i: usize) -> u16
     requires { ⌜ i < 1024 ⌝ }
     ensures { λ r. ⌜ ((ks : List ConditionalValueKey) → HeldBy (now (pool .entry)) (now (tags .entry)) (now (words .entry))
         (now (ats .entry)) (now (lens .entry)) ks → i < length ks
@@ -178,64 +156,5 @@ fn name_at(tags: &[u8], words: &[u64], ats: &[u32], lens: &[u32], pool: &[u8], i
     if lent::at_u8(tags, i) == 0 {
         return 0;
     }
-    first_same(tags, words, ats, lens, pool, i) as u64 + 1
-}
-
-// ---- names
-
-// The names of the first 1,024 cells: 0 for a cell out of range or without a key, and past the last cell.
-pub fn names(
-    range: Range,
-    rows: &[u32],
-    cols: &[u16],
-    kinds: &[u8],
-    wraps: &[u8],
-    nums: &[u64],
-    ats: &[u32],
-    lens: &[u32],
-    pool: &[u8],
-) -> [u64; 1024]
-    ensures { λ r. ⌜ r ≡ namesOf (now (pool .entry)) (keysFrom (now (pool .entry)) range (columns (now (rows .entry)) (now (cols .entry))
-        (now (kinds .entry)) (now (wraps .entry)) (now (nums .entry)) (now (ats .entry)) (now (lens .entry)))
-        0 (min (length (now (rows .entry))) 1024)) ⌝ }
-{
-    let n = cell_count(rows);
-    let keys = held(range, rows, cols, kinds, wraps, nums, ats, lens, pool);
-    let tags = keys.tags;
-    let words = keys.words;
-    let mut names = [0; 1024];
-    let mut i = 0;
-    while i < n {
-        names[i] = name_at(&tags, &words, ats, lens, pool, i);
-        i += 1;
-    }
-    names
-}
-
-// How many of the names are a name.
-fn alike(name: u64, names: &[u64]) -> u64
-    ensures { λ r. ⌜ r ≡ alike name (now (names .entry)) ⌝ }
-{
-    let mut found = 0;
-    let mut i = 0;
-    while i < names.len() {
-        if names[i] == name {
-            found += 1;
-            i += 1;
-            continue;
-        }
-        i += 1;
-    }
-    found
-}
-
-// How many have the name at an index, none where that is 0.
-pub fn found_at(names: &[u64], i: usize) -> u64
-    ensures { λ r. ⌜ r ≡ foundAt (now (names .entry)) i ⌝ }
-{
-    let name = lent::at_u64(names, i);
-    if name == 0 {
-        return 0;
-    }
-    alike(name, names)
+    first_same(tags, words, ats, lens, pool, i) as u16 + 1
 }

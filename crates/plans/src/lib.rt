@@ -5,6 +5,7 @@ ghost use lib.ListN.{length, replicate};
 ghost use Rattle.model.specs.declared.CfRule.{CfRule};
 ghost use Rattle.model.specs.Ratio.{zeroF};
 ghost use Rattle.model.specs.References.{unread};
+ghost use Rattle.model.specs.Values.{sorted, midpoint, threshold};
 ghost use Rattle.model.specs.Rule.{scale2, scale3, bar, rank, mean};
 ghost use Rattle.plans.specs.Plans.{takesValues, planOfValues, planOfOperands};
 use model::CfRule;
@@ -115,26 +116,36 @@ fn color_scale2(min: Rgb, max: Rgb, values: &[f64]) -> Plan
     })
 }
 
-// Port of the arm CfRule::ColorScale3 up to its regions. The bounds are taken ahead of the sort, which puts -0 before an earlier +0.
+// Of finite values counting gives it; only others are put in order.
+fn midpoint_of(values: &mut [f64]) -> f64
+    ensures { λ r. ⌜ r ≡ midpoint (sorted (now (values .entry))) ⌝ }
+{
+    match ranks::midpoint(values) {
+        Reading::Number(x) => x,
+        Reading::Nothing => {
+            values::sort(values);
+            values::midpoint(values)
+        }
+    }
+}
+
+// Port of the arm CfRule::ColorScale3 up to its regions. The bounds are taken ahead of the midpoint, which may sort: that puts -0 before
+// an earlier +0.
 fn color_scale3(min: Rgb, mid: Rgb, max: Rgb, values: &mut [f64]) -> Plan
     ensures { λ r. ⌜ r ≡ scale3 min mid max (now (values .entry)) ⌝ }
 {
-    let bounds = values::numeric_bounds(values);
-    values::sort(values);
-    match bounds {
-        Bounds::Of { least, greatest } => {
-            let midpoint = values::midpoint(values);
-            Plan::Tested(Test::ColorScale3 {
-                min,
-                mid,
-                max,
-                least,
-                midpoint,
-                greatest,
-            })
-        }
-        Bounds::Nothing => Plan::Skipped,
-    }
+    let Bounds::Of { least, greatest } = values::numeric_bounds(values) else {
+        return Plan::Skipped;
+    };
+    let midpoint = midpoint_of(values);
+    Plan::Tested(Test::ColorScale3 {
+        min,
+        mid,
+        max,
+        least,
+        midpoint,
+        greatest,
+    })
 }
 
 // Port of the arm CfRule::DataBar up to its regions.
@@ -151,19 +162,31 @@ fn data_bar(color: Rgb, values: &[f64]) -> Plan
     })
 }
 
+// Of finite values counting gives it; only others are put in order.
+fn threshold_of(bottom: bool, count: usize, values: &mut [f64]) -> f64
+    ensures { λ r. ⌜ r ≡ threshold bottom count (sorted (now (values .entry))) ⌝ }
+{
+    match ranks::threshold(bottom, count, values) {
+        Reading::Number(x) => x,
+        Reading::Nothing => {
+            values::sort(values);
+            values::threshold(bottom, count, values)
+        }
+    }
+}
+
 // Port of the arm CfRule::TopBottom up to its regions.
 fn top_bottom(number: u32, bottom: bool, percent: bool, fill: Rgb, values: &mut [f64]) -> Plan
     ensures { λ r. ⌜ r ≡ rank number bottom percent fill (now (values .entry)) ⌝ }
 {
     let n = values.len();
-    values::sort(values);
     if n == 0 {
         return Plan::Skipped;
     }
     if number == 0 {
         return Plan::Skipped;
     }
-    let threshold = values::threshold(bottom, values::selected(percent, number, n), values);
+    let threshold = threshold_of(bottom, values::selected(percent, number, n), values);
     Plan::Tested(Test::TopBottom {
         bottom,
         threshold,
@@ -225,7 +248,7 @@ fn plan_by(kind: CfRule, values: &mut [f64]) -> Plan
     }
 }
 
-// The same. The values are scratch: they are sorted on the way, and left cleared.
+// The same. The values are scratch: they may be sorted on the way, and are left cleared.
 pub fn plan_of_values(kind: CfRule, values: &mut [f64]) -> Plan
     ensures { λ r. ⌜ r ≡ planOfValues kind (now (values .entry)) ⌝ }
     ensures { λ _. ⌜ now (values .exit) ≡ replicate (length (now (values .entry))) zeroF ⌝ }

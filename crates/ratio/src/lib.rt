@@ -1,34 +1,34 @@
-// Ratio and colour: a value's place between two ends in parts per million, and a colour between two colours.
+// Ratio and colour: a value's place between two ends in parts per million, and a colour between two colours. Scales and bars ask for
+// them once for each region, so up to 1,000,000 neither has a branch on the value, which a processor would often guess wrong.
 ghost use mathlib.Core.Path.{_≡_};
-ghost use Rattle.model.specs.Ratio.{heldToUnit, rounded, ratio, barCells, heldToByte, channel, interpolateRgb, packed};
+ghost use mathlib.Core.Bool.{cond};
+ghost use Prim.Native.Nat.{_≤_};
+ghost use lib.Dec.{T};
+ghost use lib.Ieee.{binary64, mul, le};
+ghost use Rattle.model.specs.Ratio.{millionF, heldToUnit, rounded, ratio, barCells, heldToByte, channel, interpolateRgb, packed};
+ghost use Rattle.ratio.specs.UpTo.{upTo};
 use model::Rgb;
 
 // ---- ratio
 
-// Rust's `x.clamp(0.0, 1.0)`.
+// Rust's `x.clamp(0.0, 1.0)`, but 0 for -0 and not-a-number: a million times any of them rounds to 0.
 fn held_to_unit(x: f64) -> f64
-    ensures { λ r. ⌜ r ≡ heldToUnit x ⌝ }
+    ensures unit { λ r. ⌜ T (upTo 1 r) ⌝ }
+    ensures same { λ r. ⌜ rounded (mul binary64 r millionF) ≡ rounded (mul binary64 (heldToUnit x) millionF) ⌝ }
 {
-    if x < 0.0 {
-        return 0.0;
-    }
-    if x > 1.0 {
-        return 1.0;
-    }
-    x
+    let y = if x > 0.0 { x } else { 0.0 };
+    if y < 1.0 { y } else { 1.0 }
 }
 
-// Rust's `x.round() as u32`. Up to 2^32 - 1 the sum x + x is exact, and its whole part says on which side of a half x lies.
+// Rust's `x.round() as u32` of 0 to 1,000,000. From 2^52 to 2^53 the floats are the whole numbers, so w is the whole number
+// nearest to x, and of two as near the even one: where x is a half above w, the next is the one away from zero.
 fn rounded(x: f64) -> u32
+    requires { ⌜ T (upTo 1_000_000 x) ⌝ }
     ensures { λ r. ⌜ r ≡ rounded x ⌝ }
 {
-    if x > 4_294_967_295.0 {
-        return 4_294_967_295;
-    }
-    if x > 0.0 {
-        return ((std::num::truncating_f64_to_u64(x + x) + 1) / 2) as u32;
-    }
-    0
+    let y = x + 4_503_599_627_370_496.0;
+    let w = y - 4_503_599_627_370_496.0;
+    ((f64::to_bits(y) % 4_294_967_296) as u32) + ((w + 0.5 <= x) as u32)
 }
 
 // Port of normalized_ppm (conditional.rs).
@@ -63,10 +63,24 @@ fn held_to_byte(q: i64) -> u8
     q as u8
 }
 
+// `channel` at a ratio of at most 1,000,000: the channel is between its ends, so a u32 holds each part and nothing is to be held.
+// 256 more keep the step above zero, so that one product serves a channel that rises and one that falls.
+fn channel_within(start: u8, end: u8, ppm: u32) -> u8
+    requires { ⌜ ppm ≤ 1_000_000 ⌝ }
+    ensures { λ r. ⌜ r ≡ channel start end ppm ⌝ }
+{
+    let raised = (start as u32) * 1_000_000 + 500_000;
+    let step = (end as u32) + 256 - (start as u32);
+    ((raised + step * ppm - 256 * ppm) / 1_000_000) as u8
+}
+
 // Port of the closure `channel` in interpolate_rgb (conditional.rs).
 pub fn channel(start: u8, end: u8, ppm: u32) -> u8
     ensures { λ r. ⌜ r ≡ channel start end ppm ⌝ }
 {
+    if ppm <= 1_000_000 {
+        return channel_within(start, end, ppm);
+    }
     let delta = (end as i64) - (start as i64);
     let scaled = (start as i64) * 1_000_000 + delta * (ppm as i64);
     held_to_byte((scaled + 500_000) / 1_000_000)
@@ -83,9 +97,48 @@ pub fn interpolate_rgb(start: Rgb, end: Rgb, ppm: u32) -> Rgb
     }
 }
 
+// `interpolate_rgb` at a ratio of at most 1,000,000, with no branch on the ratio.
+fn interpolate_within(start: Rgb, end: Rgb, ppm: u32) -> Rgb
+    requires { ⌜ ppm ≤ 1_000_000 ⌝ }
+    ensures { λ r. ⌜ r ≡ interpolateRgb start end ppm ⌝ }
+{
+    Rgb {
+        red: channel_within(start.red, end.red, ppm),
+        green: channel_within(start.green, end.green, ppm),
+        blue: channel_within(start.blue, end.blue, ppm),
+    }
+}
+
 // A colour as the colour column holds it.
 pub fn packed(c: Rgb) -> u32
     ensures { λ r. ⌜ r ≡ packed c ⌝ }
 {
     (c.red as u32) * 65_536 + (c.green as u32) * 256 + (c.blue as u32)
+}
+
+// ---- colour scales, as the colour column holds them
+
+// The colour of the arm CfRule::ColorScale2 of resolve_conditional_paints (conditional.rs). A ratio is at most 1,000,000 and needs no test.
+pub fn scale2_colour(x: f64, least: f64, greatest: f64, min: Rgb, max: Rgb) -> u32
+    ensures { λ r. ⌜ r ≡ packed (interpolateRgb min max (ratio x least greatest)) ⌝ }
+{
+    packed(interpolate_within(min, max, normalized_ppm(x, least, greatest)))
+}
+
+// The colour of the arm CfRule::ColorScale3: the midpoint belongs to the lower half.
+pub fn scale3_colour(
+    x: f64,
+    least: f64,
+    midpoint: f64,
+    greatest: f64,
+    min: Rgb,
+    mid: Rgb,
+    max: Rgb,
+) -> u32
+    ensures { λ r. ⌜ r ≡ packed (cond (le x midpoint) (interpolateRgb min mid (ratio x least midpoint)) (interpolateRgb mid max (ratio x midpoint greatest))) ⌝ }
+{
+    if x <= midpoint {
+        return scale2_colour(x, least, midpoint, min, mid);
+    }
+    scale2_colour(x, midpoint, greatest, mid, max)
 }

@@ -86,10 +86,10 @@ module _ (j : Job) (limit : ℕ) (l : Lengths) where
   -- the rules from cleared columns
   pub ended-as : (f : Fine j l) (m : MarkColumns) (b : BarColumns) (e : Left) → m ≡ clearMarks l → b ≡ clearBars l
       → let s = sheetIn (j .cells) (j .regionRows) (j .regionCols) (j .pool) (j .name) in
-      e ≡ leftBy (runIn s limit (j .regionRows) (j .regionCols) (l .scratch) (j .rules) (j .start) m b) → e ≡ leftBy (ended j limit l f)
+      e ≡ leftBy (runIn s limit (j .regionRows) (j .regionCols) (j .rules) (j .start) m b) → e ≡ leftBy (ended j limit l f)
   ended-as f m b e p q h =
       let s = sheetIn (j .cells) (j .regionRows) (j .regionCols) (j .pool) (j .name) in
-      h ∙ (λ i. leftBy (runIn s limit (j .regionRows) (j .regionCols) (l .scratch) (j .rules) (j .start) (p i) (q i)))
+      h ∙ (λ i. leftBy (runIn s limit (j .regionRows) (j .regionCols) (j .rules) (j .start) (p i) (q i)))
 
   -- the rules settled
   pub answers-settled : (none-met : refusalOf j l ≡ none) (e : Left) (space : ℕ) (a : Answer) (keep : Bool) (c : Columns)

@@ -1,15 +1,15 @@
--- What a job has whose checks pass: few cells and regions that rise, and room for bars and values. Assumes nothing.
+-- What a job has whose checks pass: columns of one length, few cells and regions that rise, and room for bars and values. Assumes nothing.
 use Prim.Native.Nat.{ℕ, _≤_}
 use native.Mathlib.Omega.{arith}
-use mathlib.Core.Path.{_≡_, refl}
-use mathlib.Core.Bool.{Bool, true, false, cond, _||_}
+use mathlib.Core.Path.{_≡_, refl, sym}
+use mathlib.Core.Bool.{Bool, true, false, cond, not, _&&_, _||_, false≢true}
 use mathlib.Core.List.{List, [], _∷_}
 use mathlib.Core.Option.{Option, none, some}
 use lib.Dec.{ltb}
 use lib.ListN.{length}
-use borrow.Author.Tests.{ltb-false}
+use borrow.Author.Tests.{ltb-false, eqb-true}
 use Rattle.model.specs.Answer.{Summary}
-use Rattle.model.specs.Job.{Job, Lengths, cellCount, regionCount, tooMany, firstFall, refuseIf, firstOf, malformed, spaceShort}
+use Rattle.model.specs.Job.{Job, Lengths, cellCount, regionCount, lengthsDiffer, tooMany, firstFall, refuseIf, firstOf, malformed, spaceShort}
 use Rattle.checks.specs.Checked.{refusalOf}
 use Rattle.laws.proofs.Apart.{columns-rise}
 use Rattle.laws.proofs.DemandOne.{roomy-spaces}
@@ -19,6 +19,12 @@ unfolding firstOf
 first-none none none h = (refl, refl)
 first-none none (some s) h = absurd (let no : _≡_ {A = ℕ} 0 1 = cc in omega arith)
 first-none (some s) b h = absurd (let no : _≡_ {A = ℕ} 0 1 = cc in omega arith)
+
+-- the first of several is not met
+head-none : (met : Bool) (s : Summary) (cs : List (Option Summary)) → firstOf (cond met (some s) none ∷ cs) ≡ none → met ≡ false
+unfolding firstOf
+head-none false s cs h = refl
+head-none true s cs h = absurd (let no : _≡_ {A = ℕ} 0 1 = cc in omega arith)
 
 -- the second of several is not met
 second-none : (a : Option Summary) (met : Bool) (s : Summary) (cs : List (Option Summary)) → firstOf (a ∷ cond met (some s) none ∷ cs)
@@ -34,7 +40,24 @@ none-of-two false false c d h = (refl, refl)
 none-of-two false true c d h = (refl, h)
 none-of-two true b c d h = absurd (let no : _≡_ {A = ℕ} 0 1 = cc in omega arith)
 
+-- the first and the last of seven
+ends-of : (a b c d e f g : Bool) → not (a && b && c && d && e && f && g) ≡ false → (a ≡ true) × (g ≡ true)
+ends-of true true true true true true true h = (refl, refl)
+ends-of true true true true true true false h = absurd (false≢true (sym h))
+ends-of true true true true true false g h = absurd (false≢true (sym h))
+ends-of true true true true false f g h = absurd (false≢true (sym h))
+ends-of true true true false e f g h = absurd (false≢true (sym h))
+ends-of true true false d e f g h = absurd (false≢true (sym h))
+ends-of true false c d e f g h = absurd (false≢true (sym h))
+ends-of false b c d e f g h = absurd (false≢true (sym h))
+
 module _ (j : Job) where
+  same : malformed j ≡ none → (length (j .cells .cols) ≡ cellCount j) × (length (j .regionCols) ≡ regionCount j)
+  unfolding malformed refuseIf lengthsDiffer
+  same h =
+      let both = ends-of _ _ _ _ _ _ _ (head-none (lengthsDiffer j) _ _ h) in
+      (eqb-true _ _ (both .0), eqb-true _ _ (both .1))
+
   few : malformed j ≡ none → (cellCount j ≤ 1024) × (regionCount j ≤ 1024)
   unfolding malformed refuseIf tooMany
   few h =
@@ -44,6 +67,8 @@ module _ (j : Job) where
 
   -- what the checks leave
   pub record Fine (l : Lengths) : Type 0 where
+    pub cellCols : length (j .cells .cols) ≡ cellCount j
+    pub regionCols : length (j .regionCols) ≡ regionCount j
     pub cells : cellCount j ≤ 1024
     pub regions : regionCount j ≤ 1024
     pub cellsRise : firstFall (j .cells .rows) (j .cells .cols) ≡ none
@@ -59,6 +84,8 @@ module _ (j : Job) where
       let s = roomy-spaces j l (both .1) in
       let rise = columns-rise j (both .0) in
       record {
+        cellCols = same (both .0) .0;
+        regionCols = same (both .0) .1;
         cells = few (both .0) .0;
         regions = few (both .0) .1;
         cellsRise = rise .0;

@@ -10,16 +10,15 @@ use Rattle.charging.specs.declared.Charged.{Charged}
 use Rattle.charging.specs.Charge.{andThen, spend}
 use Rattle.model.specs.declared.Rule.{Rule}
 use Rattle.model.specs.Sheet.{Sheet}
-use Rattle.model.specs.Run.{Mark, RegionState, Run, IndexedRule, marksFrom, unmarked, step, followedBy, runFrom}
-use Rattle.judge.proofs.Laws.{StoppedBy}
-use Rattle.turns.specs.Emit.{MarkColumns, BarColumns, putMarks, drawBars, stops, outcomesOf}
-use Rattle.turns.proofs.Marks.{put-marks-append, marks-padded}
-use Rattle.turns.proofs.OutcomeTurns.{length-stops}
-use Rattle.turns.proofs.States.{barsOf, bars-after, stops-after}
-use Rattle.steps.specs.declared.Step.{Step}
-use Rattle.steps.proofs.Charges.{spend-in-two}
-use Rattle.steps.proofs.Laws.{Says, Stepped}
+use Rattle.model.specs.Run.{Mark, RegionState, Run, IndexedRule, unmarked, step, followedBy, runFrom}
+use Rattle.turns.specs.Emit.{MarkColumns, BarColumns, putMarks, drawBars, stops}
+use Rattle.turns.specs.Step.{Step}
 use Rattle.turns.specs.Turns.{State, stateOf, marksOf, ranAfter, turn, turns}
+use Rattle.turns.proofs.Charges.{spend-in-two}
+use Rattle.turns.proofs.Judging.{StoppedBy}
+use Rattle.turns.proofs.Stepping.{Says, Stepped}
+use Rattle.turns.proofs.Marks.{put-marks-append}
+use Rattle.turns.proofs.States.{barsOf, bars-after, length-stops, stops-after}
 
 -- ---- what is carried from one rule to the next
 
@@ -55,9 +54,9 @@ pub record Saying (s : Sheet) (limit n : ℕ) (say : Rule → Charged → List �
 -- a state from its parts
 pub turn-made : (i : IndexedRule) (said : Step) (st : State) (count : ℕ) (flags : List ℕ) (marks : MarkColumns) (bars : BarColumns)
     → count ≡ length (marksOf (i .index) said)
-    → flags ≡ stops (i .rule .stop) 0 (outcomesOf (said .outcomes)) (st .flags)
+    → flags ≡ stops (i .rule .stop) 0 (said .outcomes) (st .flags)
     → marks ≡ putMarks (st .marks) (st .ran .marks) (marksOf (i .index) said)
-    → bars ≡ drawBars (i .index) 0 (outcomesOf (said .outcomes)) (st .bars)
+    → bars ≡ drawBars (i .index) 0 (said .outcomes) (st .bars)
     → stateOf (ranAfter (st .ran) said count) flags marks bars ≡ turn i said st
 unfolding turn
 turn-made i said st count flags marks bars c f m b = λ k. stateOf (ranAfter (st .ran) said (c k)) (f k) (m k) (b k)
@@ -106,15 +105,14 @@ module _ (s : Sheet) (limit n a b : ℕ) (say : Rule → Charged → List ℕ �
     turn-written : n ≤ a → n ≤ b → Written a b (step s i states) st (turn i r st)
     unfolding turn
     turn-written p q =
-        let ms = ap (marksFrom (i .index) 0) (y .outcomes) ∙ marks-padded (i .index) 0 (y .os) (y .m) ∙ sym (y .marks) in
         record {
-          count = ap (λ (l : List Mark). st .ran .marks + length l) ms;
+          count = ap (λ (l : List Mark). st .ran .marks + length l) (sym (y .marks));
           deferred = ap (λ (k : ℕ). st .ran .deferred + k) (sym (y .deferred));
           simplified = ap (λ (k : ℕ). st .ran .simplified + k) (sym (y .simplified));
-          marks = ap (putMarks (st .marks) (st .ran .marks)) ms;
+          marks = ap (putMarks (st .marks) (st .ran .marks)) (sym (y .marks));
           bars =
-              rw (h .bars, y .outcomes, y .states)
-              (bars-after (i .index) (i .rule .stop) a b states (y .os) (y .m) (y .short) (omega (arith, h .stopped .many)) (omega
+              rw (h .bars, y .states)
+              (bars-after (i .index) (i .rule .stop) a b states (r .outcomes) (y .short) (omega (arith, h .stopped .many)) (omega
               (arith, h .stopped .many)));
         }
 
@@ -123,10 +121,10 @@ module _ (s : Sheet) (limit n a b : ℕ) (say : Rule → Charged → List ℕ �
     turn-held p q =
         record {
           stopped =
-              rw (y .outcomes, y .states)
-              (stops-after (i .index) (i .rule .stop) (st .flags) n states (y .os) (y .m) (h .stopped) (omega
+              rw (y .states)
+              (stops-after (i .index) (i .rule .stop) (st .flags) n states (r .outcomes) (h .stopped) (omega
               (arith, y .short, h .stopped .many)) (h .flags));
-          flags = omega (arith, h .flags, length-stops (i .rule .stop) 0 (outcomesOf (r .outcomes)) (st .flags));
+          flags = omega (arith, h .flags, length-stops (i .rule .stop) 0 (r .outcomes) (st .flags));
           bars = turn-written p q .bars;
         }
 

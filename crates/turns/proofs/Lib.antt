@@ -1,6 +1,8 @@
+pub mod Charges
+pub mod Planning
+pub mod Judging
+pub mod Stepping
 pub mod Marks
-pub mod OutcomeTurns
-pub mod MarkTurns
 pub mod States
 pub mod Laws
 pub mod Saying
@@ -8,3 +10,6 @@ pub mod Running
 pub mod Checked
 pub mod Settling
 pub mod Answering
+pub mod Known
+pub mod Painted
+pub mod Hits

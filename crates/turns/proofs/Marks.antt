@@ -1,5 +1,5 @@
--- What a caller of `emit_marks` needs: marks after marks, marks in columns that were cleared first, and outcomes padded with `Stopped`,
--- as `judge` hands them on, which have the same marks, no more than one for each outcome. Assumes nothing.
+-- The marks of a rule, no more than one for each outcome, and marks in the columns: marks after marks, each column by itself, and marks in
+-- columns that were cleared first. Assumes nothing.
 use Prim.Native.Nat.{ℕ, zero, suc, _+_, _-_, _≤_}
 use mathlib.Core.Path.{_≡_, refl, sym, ap, _∙_}
 use mathlib.Core.List.{List, [], _∷_, _++_, map}
@@ -12,25 +12,15 @@ use Rattle.model.specs.Run.{Mark, marksFrom}
 use Rattle.model.specs.Columns.{column}
 use Rattle.turns.specs.Emit.{MarkColumns, markColumns, putMark, putMarks}
 
--- ---- outcomes padded with `Stopped`
+-- ---- the marks of a rule
 
-module _ (rule : ℕ) where
-  pub marks-padded : (i : ℕ) (os : List Outcome) (m : ℕ) → marksFrom rule i (os ++ replicate m Outcome.Stopped) ≡ marksFrom rule i os
-  unfolding marksFrom
-  marks-padded i [] zero = refl
-  marks-padded i [] (suc m) = marks-padded (suc i) [] m
-  marks-padded i (Outcome.Stopped ∷ os) m = marks-padded (suc i) os m
-  marks-padded i (Outcome.Passed ∷ os) m = marks-padded (suc i) os m
-  marks-padded i (Outcome.Unresolved ∷ os) m = marks-padded (suc i) os m
-  marks-padded i (Outcome.Painted p ∷ os) m = rw (marks-padded (suc i) os m)
-
-  pub marks-few : (i : ℕ) (os : List Outcome) → length (marksFrom rule i os) ≤ length os
-  unfolding marksFrom
-  marks-few i [] = omega arith
-  marks-few i (Outcome.Stopped ∷ os) = omega (arith, marks-few (suc i) os)
-  marks-few i (Outcome.Passed ∷ os) = omega (arith, marks-few (suc i) os)
-  marks-few i (Outcome.Unresolved ∷ os) = omega (arith, marks-few (suc i) os)
-  marks-few i (Outcome.Painted p ∷ os) = omega (arith, marks-few (suc i) os)
+pub marks-few : (rule i : ℕ) (os : List Outcome) → length (marksFrom rule i os) ≤ length os
+unfolding marksFrom
+marks-few rule i [] = omega arith
+marks-few rule i (Outcome.Stopped ∷ os) = omega (arith, marks-few rule (suc i) os)
+marks-few rule i (Outcome.Passed ∷ os) = omega (arith, marks-few rule (suc i) os)
+marks-few rule i (Outcome.Unresolved ∷ os) = omega (arith, marks-few rule (suc i) os)
+marks-few rule i (Outcome.Painted p ∷ os) = omega (arith, marks-few rule (suc i) os)
 
 -- ---- marks in the columns
 
@@ -43,7 +33,7 @@ put-marks-append c n (m ∷ xs) ys =
     put-marks-append (putMark c n m) (suc n) xs ys ∙ rw onward
 
 -- each column by itself
-put-marks-sets : (regions rules kinds colours ppms : List ℕ) (n : ℕ) (ms : List Mark)
+pub put-marks-sets : (regions rules kinds colours ppms : List ℕ) (n : ℕ) (ms : List Mark)
     → putMarks (markColumns regions rules kinds colours ppms) n ms
     ≡ markColumns (sets regions n (map (λ (m : Mark). m .region) ms)) (sets rules n (map (λ (m : Mark). m .rule) ms))
     (sets kinds n (map (λ (m : Mark). m .paint .kind) ms)) (sets colours n (map (λ (m : Mark). m .paint .colour) ms))

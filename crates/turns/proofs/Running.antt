@@ -4,17 +4,16 @@ use Prim.Native.Nat.{ℕ, _+_, _*_, _≤_, _<_}
 use native.Mathlib.Omega.{arith}
 use mathlib.Core.Path.{_≡_, refl, ap, _∙_}
 use mathlib.Core.List.{List}
-use lib.ListN.{length, getD, drop, replicate}
+use lib.ListN.{length, getD, drop}
 use lib.Seq.{drop-length}
 use lib.Ieee.{Float}
 use Rattle.charging.specs.declared.Charged.{Charged}
 use Rattle.model.specs.declared.Rule.{Rule}
 use Rattle.model.specs.declared.Rules.{Rules}
-use Rattle.model.specs.Ratio.{zeroF}
 use Rattle.order.specs.Order.{orderOf, orderedRules}
 use Rattle.order.proofs.Laws.{taken-length, taken-next, entry-within}
 use Rattle.turns.specs.Emit.{MarkColumns, BarColumns}
-use Rattle.steps.specs.declared.Step.{Step}
+use Rattle.turns.specs.Step.{Step}
 use Rattle.settling.specs.declared.Ran.{Ran}
 use Rattle.turns.specs.Turns.{State, indexed, turn, turns}
 
@@ -29,7 +28,7 @@ pub small-next : {ran next : Ran} {k : ℕ} → Small ran k → next .marks ≤ 
 small-next h m d s =
     record { marks = omega (arith, h .marks, m); deferred = omega (arith, h .deferred, d); simplified = omega (arith, h .simplified, s) }
 
--- the lent columns and the flags keep their lengths, and the scratch is 0 from end to end
+-- the lent columns and the flags keep their lengths
 pub record Kept (m₀ m : MarkColumns) (b₀ b : BarColumns) (s₀ s : List Float) (flags : List ℕ) : Type 0 where
   pub regions : length (m .regions) ≡ length (m₀ .regions)
   pub rules : length (m .rules) ≡ length (m₀ .rules)
@@ -39,7 +38,6 @@ pub record Kept (m₀ m : MarkColumns) (b₀ b : BarColumns) (s₀ s : List Floa
   pub barRules : length (b .rules) ≡ length (b₀ .rules)
   pub barPpms : length (b .ppms) ≡ length (b₀ .ppms)
   pub scratch : length s ≡ length s₀
-  pub cleared : s ≡ replicate (length s₀) zeroF
   pub flagged : length flags ≡ 1024
 
 module _ (say : Rule → Charged → List ℕ → Step) (rules : Rules) where

@@ -53,12 +53,7 @@ settled-by space r ran (Charged.CoordinateOverflow c) h = refl
 
 -- ---- the columns
 
--- the columns as they were lent, after the rules
-abbrev columnsBy : Lengths → Left → Columns
-columnsBy l e =
-    lent (e .marks .regions) (e .marks .rules) (e .marks .kinds) (e .marks .colours) (e .marks .ppms) (e .bars .rules) (e .bars .ppms)
-    (replicate (l .scratch) zeroF)
-
+-- the columns after the rules, kept or cleared; scratch is 0
 abbrev pub keptBy : Bool → Lengths → Left → Columns
 keptBy b l e =
     lent (keptIf b (e .marks .regions)) (keptIf b (e .marks .rules)) (keptIf b (e .marks .kinds)) (keptIf b (e .marks .colours))
@@ -144,8 +139,8 @@ module _ (j : Job) (limit : ℕ) (l : Lengths) (f : Fine j l) where
 
   abbrev pub ended : State
   ended =
-      runIn (sheetIn (j .cells) (j .regionRows) (j .regionCols) (j .pool) (j .name)) limit (j .regionRows) (j .regionCols) (l .scratch)
-      (j .rules) (j .start) (clearMarks l) (clearBars l)
+      runIn (sheetIn (j .cells) (j .regionRows) (j .regionCols) (j .pool) (j .name)) limit (j .regionRows) (j .regionCols) (j .rules)
+      (j .start) (clearMarks l) (clearBars l)
 
   held : Held (regionCount j) (l .barRules) (l .barPpms) (replicate (regionCount j) untouched) begun
   held =
@@ -164,7 +159,7 @@ module _ (j : Job) (limit : ℕ) (l : Lengths) (f : Fine j l) where
       subst (λ (n : ℕ). Carried limit (l .barRules) (l .barPpms) (runFrom s (ordered (rulesOf j)) (replicate n untouched)) begun ended)
       (sym (regions-length (j .regionRows) (j .regionCols) 0 (regionCount j)))
       (turns-carried s limit (regionCount j) (l .barRules) (l .barPpms)
-      (sayIn s limit (j .regionRows) (j .regionCols) (l .scratch)) (says-in j limit (l .scratch) (f .regions) (f .scratch))
+      (sayIn s limit (j .regionRows) (j .regionCols)) (says-in j limit)
       (f .barRules) (f .barPpms) (ordered (rulesOf j)) (replicate (regionCount j) untouched) begun held)
 
   spent : ended .ran .charged ≡ spend limit (j .start) (runOf j .charges)

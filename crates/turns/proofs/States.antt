@@ -1,18 +1,18 @@
--- What a caller of `draw_bars` and `stop_regions` needs: bars and flags that say what the rules so far left at the regions say after a
--- rule what `allAfterwards` leaves, and at the start those of regions that no rule has touched. Assumes nothing.
+-- Bars and stop flags that say what the rules so far left at the regions say after a rule what `allAfterwards` leaves, and at the start
+-- those of regions that no rule has touched. Assumes nothing.
 use Prim.Native.Nat.{ℕ, zero, suc, _+_, _≤_, _<_}
 use mathlib.Core.Path.{_≡_, refl, sym, ap, _∙_}
 use mathlib.Core.Bool.{Bool, true, false, cond, not, _&&_, _||_}
-use mathlib.Core.List.{List, [], _∷_, _++_}
+use mathlib.Core.List.{List, [], _∷_}
 use native.Mathlib.Nat.{sub-zero, suc-sub-suc, zero-add}
 use native.Mathlib.Omega.{arith}
 use lib.Dec.{eqb}
-use lib.ListN.{length, getD, set, replicate, length-replicate, getD-replicate}
+use lib.ListN.{length, getD, set, replicate, length-set, length-replicate, getD-replicate}
 use Rattle.model.specs.declared.Outcome.{Outcome}
 use Rattle.model.specs.Run.{RegionState, untouched, hasBar, painted, afterwards, allAfterwards}
 use Rattle.model.specs.Columns.{column}
-use Rattle.judge.proofs.Laws.{StoppedBy}
 use Rattle.turns.specs.Emit.{BarColumns, barColumns, drawBar, drawBars, stopAt, stops}
+use Rattle.turns.proofs.Judging.{StoppedBy}
 
 -- a column with one entry more
 column-cons : {A : Type 0} (field : A → ℕ) (n : ℕ) (a : A) (entries : List A)
@@ -57,13 +57,6 @@ module _ (rule : ℕ) where
   bars-later i [] bar ppm c = refl
   bars-later i (o ∷ os) bar ppm c = rw (bar-later i o bar ppm c) (bars-later (suc i) os bar ppm (drawBar rule i o c))
 
-  bars-padded : (i : ℕ) (os : List Outcome) (m : ℕ) (c : BarColumns)
-      → drawBars rule i (os ++ replicate m Outcome.Stopped) c ≡ drawBars rule i os c
-  unfolding drawBars drawBar
-  bars-padded i [] zero c = refl
-  bars-padded i [] (suc m) c = bars-padded (suc i) [] m c
-  bars-padded i (o ∷ os) m c = bars-padded (suc i) os m (drawBar rule i o c)
-
   bar-first : (stop : Bool) (s : RegionState) (o : Outcome) (c : BarColumns)
       → drawBar rule 0 o (withBar (s .barRule) (s .barPpm) c)
       ≡ withBar (afterwards rule stop s o .barRule) (afterwards rule stop s o .barPpm) c
@@ -73,28 +66,22 @@ module _ (rule : ℕ) where
   bar-first stop s Outcome.Unresolved c = refl
   bar-first stop s (Outcome.Painted p) c = cond-bar (hasBar p && eqb (s .barRule) 0) _ _ _ _ c
 
-  module _ (stop : Bool) where
-    bars-resolved : (a b : ℕ) (states : List RegionState) (os : List Outcome)
-        → length os ≤ length states → length states ≤ a → length states ≤ b
-        → drawBars rule 0 os (barsOf a b states) ≡ barsOf a b (allAfterwards rule stop states os)
-    unfolding drawBars allAfterwards
-    bars-resolved a b [] [] h ha hb = refl
-    bars-resolved a b [] (o ∷ os) h ha hb = absurd (omega arith)
-    bars-resolved a b (s ∷ states) [] h ha hb = refl
-    bars-resolved zero b (s ∷ states) (o ∷ os) h ha hb = absurd (omega arith)
-    bars-resolved (suc a) zero (s ∷ states) (o ∷ os) h ha hb = absurd (omega arith)
-    bars-resolved (suc a) (suc b) (s ∷ states) (o ∷ os) h ha hb =
-        let next = afterwards rule stop s o in
-        ap (λ c. drawBars rule 1 os (drawBar rule 0 o c)) (bars-of-cons a b s states)
-        ∙ ap (λ c. drawBars rule 1 os c) (bar-first stop s o (barsOf a b states))
-        ∙ bars-later 0 os (next .barRule) (next .barPpm) (barsOf a b states)
-        ∙ ap (withBar (next .barRule) (next .barPpm)) (bars-resolved a b states os (omega arith) (omega arith) (omega arith))
-        ∙ sym (bars-of-cons a b next (allAfterwards rule stop states os))
-
-    pub bars-after : (a b : ℕ) (states : List RegionState) (os : List Outcome) (m : ℕ)
-        → length os ≤ length states → length states ≤ a → length states ≤ b
-        → drawBars rule 0 (os ++ replicate m Outcome.Stopped) (barsOf a b states) ≡ barsOf a b (allAfterwards rule stop states os)
-    bars-after a b states os m h ha hb = bars-padded 0 os m (barsOf a b states) ∙ bars-resolved a b states os h ha hb
+  pub bars-after : (stop : Bool) (a b : ℕ) (states : List RegionState) (os : List Outcome)
+      → length os ≤ length states → length states ≤ a → length states ≤ b
+      → drawBars rule 0 os (barsOf a b states) ≡ barsOf a b (allAfterwards rule stop states os)
+  unfolding drawBars allAfterwards
+  bars-after stop a b [] [] h ha hb = refl
+  bars-after stop a b [] (o ∷ os) h ha hb = absurd (omega arith)
+  bars-after stop a b (s ∷ states) [] h ha hb = refl
+  bars-after stop zero b (s ∷ states) (o ∷ os) h ha hb = absurd (omega arith)
+  bars-after stop (suc a) zero (s ∷ states) (o ∷ os) h ha hb = absurd (omega arith)
+  bars-after stop (suc a) (suc b) (s ∷ states) (o ∷ os) h ha hb =
+      let next = afterwards rule stop s o in
+      ap (λ c. drawBars rule 1 os (drawBar rule 0 o c)) (bars-of-cons a b s states)
+      ∙ ap (λ c. drawBars rule 1 os c) (bar-first stop s o (barsOf a b states))
+      ∙ bars-later 0 os (next .barRule) (next .barPpm) (barsOf a b states)
+      ∙ ap (withBar (next .barRule) (next .barPpm)) (bars-after stop a b states os (omega arith) (omega arith) (omega arith))
+      ∙ sym (bars-of-cons a b next (allAfterwards rule stop states os))
 
 -- ---- the stop flags
 
@@ -106,7 +93,23 @@ cond-first : (t : Bool) (x y : ℕ) (xs : List ℕ) → cond t (x ∷ xs) (y ∷
 cond-first true x y xs = refl
 cond-first false x y xs = refl
 
+length-set-if : (stop : Bool) (i : ℕ) (flags : List ℕ) → length (cond stop (set flags i 1) flags) ≡ length flags
+length-set-if true i flags = length-set flags i 1
+length-set-if false i flags = refl
+
 module _ (stop : Bool) where
+  length-stop : (i : ℕ) (o : Outcome) (flags : List ℕ) → length (stopAt stop i o flags) ≡ length flags
+  unfolding stopAt
+  length-stop i Outcome.Stopped flags = refl
+  length-stop i Outcome.Passed flags = refl
+  length-stop i Outcome.Unresolved flags = refl
+  length-stop i (Outcome.Painted p) flags = length-set-if stop i flags
+
+  pub length-stops : (i : ℕ) (os : List Outcome) (flags : List ℕ) → length (stops stop i os flags) ≡ length flags
+  unfolding stops
+  length-stops i [] flags = refl
+  length-stops i (o ∷ os) flags = length-stops (suc i) os (stopAt stop i o flags) ∙ length-stop i o flags
+
   stop-later : (i : ℕ) (o : Outcome) (x : ℕ) (flags : List ℕ) → stopAt stop (suc i) o (x ∷ flags) ≡ x ∷ stopAt stop i o flags
   unfolding stopAt
   stop-later i Outcome.Stopped x flags = refl
@@ -118,13 +121,6 @@ module _ (stop : Bool) where
   unfolding stops
   stops-later i [] x flags = refl
   stops-later i (o ∷ os) x flags = rw (stop-later i o x flags) (stops-later (suc i) os x (stopAt stop i o flags))
-
-  stops-padded : (i : ℕ) (os : List Outcome) (m : ℕ) (flags : List ℕ)
-      → stops stop i (os ++ replicate m Outcome.Stopped) flags ≡ stops stop i os flags
-  unfolding stops stopAt
-  stops-padded i [] zero flags = refl
-  stops-padded i [] (suc m) flags = stops-padded (suc i) [] m flags
-  stops-padded i (o ∷ os) m flags = stops-padded (suc i) os m (stopAt stop i o flags)
 
   -- the flag of a region with an outcome
   unfoldable flagAfter : Outcome → ℕ → ℕ
@@ -171,23 +167,18 @@ module _ (x : ℕ) {flags : List ℕ} {n : ℕ} (s : RegionState) {states : List
   stopped-cons = record { many = omega (arith, h .many); flag = flag-cons }
 
 module _ (rule : ℕ) (stop : Bool) where
-  stops-resolved : (flags : List ℕ) (n : ℕ) (states : List RegionState) (os : List Outcome) → StoppedBy flags 0 n states
+  pub stops-after : (flags : List ℕ) (n : ℕ) (states : List RegionState) (os : List Outcome) → StoppedBy flags 0 n states
       → length os ≤ n → n ≤ length flags → StoppedBy (stops stop 0 os flags) 0 n (allAfterwards rule stop states os)
   unfolding stops allAfterwards
-  stops-resolved flags n [] [] h l k = h
-  stops-resolved flags n (s ∷ states) [] h l k = h
-  stops-resolved flags n [] (o ∷ os) h l k = absurd (omega (arith, h .many))
-  stops-resolved [] n (s ∷ states) (o ∷ os) h l k = absurd (omega arith)
-  stops-resolved (x ∷ flags) zero (s ∷ states) (o ∷ os) h l k = absurd (omega arith)
-  stops-resolved (x ∷ flags) (suc n) (s ∷ states) (o ∷ os) h l k =
+  stops-after flags n [] [] h l k = h
+  stops-after flags n (s ∷ states) [] h l k = h
+  stops-after flags n [] (o ∷ os) h l k = absurd (omega (arith, h .many))
+  stops-after [] n (s ∷ states) (o ∷ os) h l k = absurd (omega arith)
+  stops-after (x ∷ flags) zero (s ∷ states) (o ∷ os) h l k = absurd (omega arith)
+  stops-after (x ∷ flags) (suc n) (s ∷ states) (o ∷ os) h l k =
       rw (stop-first stop o x flags, stops-later stop 0 os (flagAfter stop o x) flags)
       (stopped-cons _ _ (flag-says rule stop s o x (h .flag 0 (omega arith)))
-      (stops-resolved flags n states os (stopped-rest h) (omega arith) (omega arith)))
-
-  pub stops-after : (flags : List ℕ) (n : ℕ) (states : List RegionState) (os : List Outcome) (m : ℕ) → StoppedBy flags 0 n states
-      → length os ≤ n → n ≤ length flags
-      → StoppedBy (stops stop 0 (os ++ replicate m Outcome.Stopped) flags) 0 n (allAfterwards rule stop states os)
-  stops-after flags n states os m h l k = rw (stops-padded stop 0 os m flags) (stops-resolved flags n states os h l k)
+      (stops-after flags n states os (stopped-rest h) (omega arith) (omega arith)))
 
 -- ---- regions that no rule has touched
 

@@ -1,17 +1,19 @@
 -- What a rule that was judged leaves in the columns: its marks one after the other, the first bar of each region, and the stop flags
 -- (document 01, 'Rules'). Past the end of a column nothing is written. Assumes nothing.
 use Prim.Native.Nat.{ℕ, suc}
+use mathlib.Core.Path.{_≡_}
 use mathlib.Core.Bool.{Bool, cond, _&&_}
 use mathlib.Core.List.{List, [], _∷_, map}
 use lib.Dec.{eqb}
+use lib.Ieee.{Float, nan}
 use lib.ListN.{getD, set}
 use Rattle.model.specs.declared.Outcome.{Outcome}
 use Rattle.model.specs.declared.Paint.{Paint}
-use Rattle.model.specs.Run.{Mark, hasBar}
-use Rattle.judge.specs.declared.Said.{Said}
-
-abbrev pub outcomesOf : List Said → List Outcome
-outcomesOf = map (λ (s : Said). s .outcome)
+use Rattle.model.specs.declared.Test.{Test}
+use Rattle.model.specs.Run.{Mark, hasBar, marksFrom}
+use Rattle.plans.specs.Plans.{isBarTest}
+use Rattle.hits.specs.Hits.{hitsFrom}
+use Rattle.hits.specs.Painted.{ppmBy, paintBy}
 
 -- ---- the marks
 
@@ -41,6 +43,10 @@ putMark c n m =
       ppms = set (c .ppms) n (m .paint .ppm);
     }
 
+-- the mark of a region that a test paints, by the numbers of the regions' cells
+abbrev pub hitMark : Test → Bool → List Float → ℕ → ℕ → Mark
+hitMark t imported values rule region = markAt region rule (paintBy t imported (getD values region nan))
+
 -- marks from place n on
 unfoldable pub putMarks : MarkColumns → ℕ → List Mark → MarkColumns
 putMarks c n [] = c
@@ -69,6 +75,15 @@ unfoldable pub drawBars : ℕ → ℕ → List Outcome → BarColumns → BarCol
 drawBars rule region [] c = c
 drawBars rule region (o ∷ os) c = drawBars rule (suc region) os (drawBar rule region o c)
 
+-- the same of a region that a bar test paints
+abbrev pub drawHit : ℕ → ℕ → ℕ → BarColumns → BarColumns
+drawHit rule ppm region c =
+    cond (eqb (getD (c .rules) region 0) 0) (barColumns (set (c .rules) region (suc rule)) (set (c .ppms) region ppm)) c
+
+unfoldable pub drawHits : ℕ → (ℕ → ℕ) → List ℕ → BarColumns → BarColumns
+drawHits rule ppm [] c = c
+drawHits rule ppm (h ∷ hs) c = drawHits rule ppm hs (drawHit rule (ppm h) h c)
+
 -- ---- the stop flags
 
 -- a mark of a rule that stops sets its region's flag
@@ -82,3 +97,16 @@ stopAt stop region (Outcome.Painted p) flags = cond stop (set flags region 1) fl
 unfoldable pub stops : Bool → ℕ → List Outcome → List ℕ → List ℕ
 stops stop region [] flags = flags
 stops stop region (o ∷ os) flags = stops stop (suc region) os (stopAt stop region o flags)
+
+-- the flags of the regions that were painted
+unfoldable pub stopHits : List ℕ → List ℕ → List ℕ
+stopHits [] flags = flags
+stopHits (h ∷ hs) flags = stopHits hs (set flags h 1)
+
+-- ---- outcomes by the regions that they paint
+
+-- the marks and the bars of the outcomes are those of the painted regions, by the test and the numbers of their cells
+pub record Paints (t : Test) (imported : Bool) (values : List Float) (os : List Outcome) : Type 0 where
+  pub marks : (rule : ℕ) → marksFrom rule 0 os ≡ map (hitMark t imported values rule) (hitsFrom 0 os)
+  pub bars : (rule : ℕ) (c : BarColumns) → drawBars rule 0 os c
+      ≡ cond (isBarTest t) (drawHits rule (λ h. ppmBy t (getD values h nan)) (hitsFrom 0 os) c) c

@@ -1,3 +1,5 @@
+pub mod Step
 pub mod Emit
+pub mod Knowing
 pub mod Turns
 pub mod Lent

@@ -13,9 +13,8 @@ use Rattle.model.specs.Run.{Mark, IndexedRule, marksFrom}
 use Rattle.order.specs.Order.{orderedRules}
 use Rattle.cells.specs.Columns.{cellsOf}
 use Rattle.ranges.specs.Turns.{sheetFrom}
-use Rattle.turns.specs.Emit.{MarkColumns, putMarks, BarColumns, drawBars, stops, outcomesOf}
-use Rattle.steps.specs.declared.Step.{Step}
-use Rattle.steps.specs.Step.{stepOf}
+use Rattle.turns.specs.Emit.{MarkColumns, putMarks, BarColumns, drawBars, stops}
+use Rattle.turns.specs.Step.{Step, stepOf}
 use Rattle.settling.specs.declared.Ran.{Ran}
 
 -- the rules so far, with what is lent and the stop flags of the regions
@@ -34,7 +33,7 @@ ranNone start = record { charged = Charged.Within (counter start); marks = 0; de
 
 -- a rule's own marks
 abbrev pub marksOf : ℕ → Step → List Mark
-marksOf index said = marksFrom index 0 (outcomesOf (said .outcomes))
+marksOf index said = marksFrom index 0 (said .outcomes)
 
 abbrev pub ranAfter : Ran → Step → ℕ → Ran
 ranAfter ran said marks =
@@ -49,12 +48,11 @@ ranAfter ran said marks =
 unfoldable pub turn : IndexedRule → Step → State → State
 turn i said state =
     let ms = marksOf (i .index) said in
-    let os = outcomesOf (said .outcomes) in
     record {
       ran = ranAfter (state .ran) said (length ms);
-      flags = stops (i .rule .stop) 0 os (state .flags);
+      flags = stops (i .rule .stop) 0 (said .outcomes) (state .flags);
       marks = putMarks (state .marks) (state .ran .marks) ms;
-      bars = drawBars (i .index) 0 os (state .bars);
+      bars = drawBars (i .index) 0 (said .outcomes) (state .bars);
     }
 
 -- the rules in turn; what a rule says depends on the charges and the stop flags that it finds
@@ -84,11 +82,11 @@ abbrev pub sheetIn : CellColumns → List ℕ → List ℕ → List ℕ → Span
 sheetIn cells regionRows regionCols pool name =
     sheetFrom (cellsOf cells) (regionsFrom regionRows regionCols 0 (length regionRows)) pool name
 
--- what a rule says under a limit, with room for so many values
-abbrev pub sayIn : Sheet → ℕ → List ℕ → List ℕ → ℕ → Rule → Charged → List ℕ → Step
-sayIn s limit rows cols room r charged flags = stepOf s r charged limit rows cols flags room
+-- what a rule says under a limit
+abbrev pub sayIn : Sheet → ℕ → List ℕ → List ℕ → Rule → Charged → List ℕ → Step
+sayIn s limit rows cols r charged flags = stepOf s r charged limit rows cols flags
 
 -- the rules in their order, from a count and from what the columns hold; no region is stopped
-abbrev pub runIn : Sheet → ℕ → List ℕ → List ℕ → ℕ → Rules → ℕ → MarkColumns → BarColumns → State
-runIn s limit rows cols room rules start marks bars =
-    turns (sayIn s limit rows cols room) (orderedRules rules) (stateOf (ranNone start) (replicate 1024 0) marks bars)
+abbrev pub runIn : Sheet → ℕ → List ℕ → List ℕ → Rules → ℕ → MarkColumns → BarColumns → State
+runIn s limit rows cols rules start marks bars =
+    turns (sayIn s limit rows cols) (orderedRules rules) (stateOf (ranNone start) (replicate 1024 0) marks bars)

@@ -1,5 +1,6 @@
 -- `call::resolve_conditional_paints` meets its contract: the columns are cleared; a check that is met is the answer; else cells and regions
 -- are few and rise, and the rules are run from the cleared columns, and settled. Assumes nothing.
+use native.Mathlib.Omega.{arith}
 use mathlib.Core.Path.{refl, _∙_}
 use denote.Ref.{now}
 use borrow.Author.Needs.{needs}
@@ -81,8 +82,10 @@ enum-told c = search needs
 run-requires : tie.Need-run-requires
 run-requires c κs =
     let checked = c .before .before .before .before .before .before .before .before .before .before in
-    let cleared = checked .before .before .before .before .before .before .before .before .before .before .before .before .before .before .before in
-    let a = cleared .before .before .before .before .before .before .before .before .before .before .before .before .before .before .before .before .before .before .before .before .before .before .before .before .before .before .args in
+    let cleared = checked .before .before .before .before .before .before .before .before .before .before .before .before .before .before
+    .before in
+    let a = cleared .before .before .before .before .before .before .before .before .before .before .before .before .before .before
+    .before .before .before .before .before .before .before .before .before .before .before .before .args in
     let j = jobOf (cellColumns (now (a .rows)) (now (a .cols)) (now (a .kinds)) (now (a .wraps)) (now (a .nums)) (now (a .ats)) (now
     (a .lens)))
     (now (a .region-rows)) (now (a .region-cols)) (now (a .pool)) (a .name) (a .rules) (a .start) in
@@ -91,8 +94,10 @@ run-requires c κs =
     let k = cleared .clear-columns .kept in
     let none-met = fine j (a .limit) l (checked .check .result) _ _ _ (k .1 .1 .1 .1 .1 .0) (k .1 .1 .1 .1 .1 .1 .0) refl
     (checked .check .ensures) (c .before .before .before .before .before .before .before .before .before .match .keys2) in
-    let f = checked-fine j l none-met in
-    ((f .cellsRise, f .cells), (f .regionsRise, f .regions))
+    let f = checked-fine j l none-met in (
+      (f .cellsRise, f .cells, omega (arith, f .cellCols), f .scratch),
+      (f .regionsRise, f .regions, omega (arith, f .regionCols)),
+    )
 
 same-length-9 : tie.Need-same-length-9
 same-length-9 c =

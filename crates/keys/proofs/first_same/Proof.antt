@@ -35,7 +35,7 @@ returns c =
     let turn = c .before .before in (
       omega (arith, turn .loop-test .taken),
       λ ks v h e. key-found (turn .before .loop .inv .1 ks v h e) (omega (arith, h, turn .loop-test .taken))
-          (sym (c .before .same-held .ensures ks v h (omega (arith, h, turn .loop-test .taken)) e) ∙ c .if1 .taken),
+          (sym (c .before .same-held .ensures ks v e) ∙ c .if1 .taken),
     )
 
 add-j : tie.Need-add-j Inv-loop μ-loop
@@ -49,7 +49,7 @@ loop-again c =
     let turn = c .before .before in (
       omega (arith, turn .loop-test .taken),
       λ ks v h e. key-passed (turn .before .loop .inv .1 ks v h e) (omega (arith, h, turn .loop-test .taken))
-          (sym (c .before .same-held .ensures ks v h (omega (arith, h, turn .loop-test .taken)) e) ∙ c .if1 .left),
+          (sym (c .before .same-held .ensures ks v e) ∙ c .if1 .left),
     )
 
 returns-2 : tie.Need-returns-2 Inv-loop μ-loop

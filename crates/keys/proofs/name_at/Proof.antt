@@ -23,8 +23,11 @@ returns c ks v h =
 first-same-requires : tie.Need-first-same-requires
 first-same-requires c κs = search needs
 
+cast-result : tie.Need-cast-result
+cast-result c = omega (arith, c .first-same .ensures .0)
+
 add-result : tie.Need-add-result
-add-result c = search needs
+add-result c = omega (arith, c .first-same .ensures .0)
 
 returns-2 : tie.Need-returns-2
 returns-2 c ks v h =
@@ -34,4 +37,4 @@ returns-2 c ks v h =
     omega (arith, c .first-same .ensures .1 ks v h keyed, name-keyed (now (args .pool)) ks (getD ks i Key.Nothing) keyed)
 
 pub name-at-spec : {M : Type 1} → statement M
-name-at-spec = tie.close (tie.spec at-u8-requires returns first-same-requires add-result returns-2)
+name-at-spec = tie.close (tie.spec at-u8-requires returns first-same-requires cast-result add-result returns-2)

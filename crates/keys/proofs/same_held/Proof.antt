@@ -1,7 +1,7 @@
 -- `keys::same_held` meets its contract: keys with two words or two tags differ, texts with one word are told by their letters, and other
 -- keys with one word and one tag are the same. Assumes nothing.
 use mathlib.Core.Path.{sym, _∙_}
-use Rattle.keys.proofs.Comparing.{words-differ, tags-differ, texts-compared, others-compared}
+use Rattle.keys.proofs.Comparing.{span-equal, words-differ, tags-differ, texts-compared, places-compared, others-compared}
 use borrow.Author.Needs.{needs}
 use Rattle.keys.proofs.same_held.Statement.{statement}
 use Rattle.keys.proofs.same_held.Tie as tie
@@ -13,7 +13,7 @@ at-u64-requires-2 : tie.Need-at-u64-requires-2
 at-u64-requires-2 c κs = search needs
 
 returns : tie.Need-returns
-returns c ks v h k e =
+returns c ks v e =
     let args = c .before .before .before .before .before .before .before .before .args in
     words-differ _ v (args .i) (args .j) (λ q. c .if1 .taken (c .before .before .at-u64 .ensures ∙ q ∙ sym (c .before .at-u642 .ensures)))
 
@@ -24,7 +24,7 @@ at-u8-requires-2 : tie.Need-at-u8-requires-2
 at-u8-requires-2 c κs = search needs
 
 returns-2 : tie.Need-returns-2
-returns-2 c ks v h k e =
+returns-2 c ks v e =
     let args = c .before .before .before .before .before .before .before .before .before .before .before .args in
     tags-differ _ v (args .i) (args .j) (λ q. c .if2 .taken (c .before .at-u82 .ensures ∙ q ∙ sym (c .before .before .at-u8 .ensures)))
 
@@ -33,6 +33,22 @@ span-at-requires c κs = search needs
 
 span-at-requires-2 : tie.Need-span-at-requires-2
 span-at-requires-2 c κs = search needs
+
+same-span-requires : tie.Need-same-span-requires
+same-span-requires c κs = search needs
+
+returns-3 : tie.Need-returns-3
+returns-3 c ks v e =
+    let spans = c .before .before in
+    let text = spans .before .before in
+    let tagged = text .before in
+    let args = tagged .before .before .before .before .before .before .before .before .before .before .before .args in
+    places-compared _ v (args .i) (args .j)
+    (sym (spans .before .span-at .ensures)
+    ∙ span-equal _ _ (sym (c .before .same-span .ensures) ∙ c .if4 .taken)
+    ∙ spans .span-at2 .ensures)
+    (sym (tagged .before .at-u82 .ensures) ∙ tagged .if2 .left ∙ tagged .before .before .at-u8 .ensures)
+    (sym (tagged .before .before .at-u8 .ensures) ∙ text .if3 .taken)
 
 text-at-requires : tie.Need-text-at-requires
 text-at-requires c κs = search needs
@@ -43,20 +59,21 @@ text-at-requires-2 c κs = search needs
 same-letters-requires : tie.Need-same-letters-requires
 same-letters-requires c κs = search needs
 
-returns-3 : tie.Need-returns-3
-returns-3 c ks v h k e =
-    let text = c .before .before .before .before .before in
+returns-4 : tie.Need-returns-4
+returns-4 c ks v e =
+    let spans = c .before .before .before .before .before in
+    let text = spans .before .before in
     let tagged = text .before in
     let args = tagged .before .before .before .before .before .before .before .before .before .before .before .args in
     c .same-letters .ensures
     ∙ rw (c .before .text-at2 .ensures, c .before .before .text-at .ensures)
-    (rw (c .before .before .before .span-at2 .ensures, c .before .before .before .before .span-at .ensures)
-    (texts-compared _ v (args .i) (args .j) h k
+    (rw (spans .span-at2 .ensures, spans .before .span-at .ensures)
+    (texts-compared _ v (args .i) (args .j)
     (sym (tagged .before .at-u82 .ensures) ∙ tagged .if2 .left ∙ tagged .before .before .at-u8 .ensures)
     (sym (tagged .before .before .at-u8 .ensures) ∙ text .if3 .taken)))
 
-returns-4 : tie.Need-returns-4
-returns-4 c ks v h k e =
+returns-5 : tie.Need-returns-5
+returns-5 c ks v e =
     let tagged = c .before in
     let worded = tagged .before .before .before in
     let args = worded .before .before .before .before .before .before .before .before .args in
@@ -77,8 +94,10 @@ same-held-spec =
     returns-2
     span-at-requires
     span-at-requires-2
+    same-span-requires
+    returns-3
     text-at-requires
     text-at-requires-2
     same-letters-requires
-    returns-3
-    returns-4)
+    returns-4
+    returns-5)

@@ -1,5 +1,4 @@
--- `color_scale3` meets its contract: the bounds are those of the values as they came, the midpoint that of the values in order.
--- Assumes nothing.
+-- `color_scale3` meets its contract: the bounds are those of the values as they came. Assumes nothing.
 use borrow.Author.Needs.{needs}
 use mathlib.Core.Path.{sym, _∙_}
 use Rattle.plans.proofs.Cases.{scale3-bounds}
@@ -9,14 +8,8 @@ use Rattle.plans.proofs.color_scale3.Tie as tie
 numeric-bounds-requires : tie.Need-numeric-bounds-requires
 numeric-bounds-requires c κs = search needs
 
-sort-requires : tie.Need-sort-requires
-sort-requires c κs = search needs
-
-enum-known-bounds : tie.Need-enum-known-bounds
-enum-known-bounds c = search needs
-
-midpoint-requires : tie.Need-midpoint-requires
-midpoint-requires c κs = search needs
+enum-known-least : tie.Need-enum-known-least
+enum-known-least c = search needs
 
 enum-told : tie.Need-enum-told
 enum-told c = search needs
@@ -25,30 +18,29 @@ same-length : tie.Need-same-length
 same-length c = search needs
 
 returns : tie.Need-returns
-returns c =
-    let m = c .before .before .before in
-    let s = m .before .before .before .before in
-    let bounds = sym (s .before .before .numeric-bounds .ensures) ∙ m .bounds .given .1 in
-    rw (scale3-bounds, bounds, c .midpoint .ensures, s .sort .ensures)
+returns c = rw (scale3-bounds, sym (c .before .before .numeric-bounds .ensures) ∙ c .enum-told .given .1)
+
+midpoint-of-requires : tie.Need-midpoint-of-requires
+midpoint-of-requires c κs = search needs
 
 same-length-2 : tie.Need-same-length-2
 same-length-2 c = search needs
 
 returns-2 : tie.Need-returns-2
 returns-2 c =
-    let s = c .before .before .before .before in
-    rw (scale3-bounds, sym (s .before .before .numeric-bounds .ensures) ∙ c .enum-told .given .1)
+    let m = c .before .before in
+    let b = m .before .before .before in
+    rw (scale3-bounds, sym (b .before .before .numeric-bounds .ensures) ∙ b .least .given .1, m .midpoint-of .ensures)
 
 pub color-scale3-spec : {M : Type 1} → statement M
 color-scale3-spec =
     tie.close
     (tie.spec
     numeric-bounds-requires
-    sort-requires
-    enum-known-bounds
-    midpoint-requires
+    enum-known-least
     enum-told
     same-length
     returns
+    midpoint-of-requires
     same-length-2
     returns-2)

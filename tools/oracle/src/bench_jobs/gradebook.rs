@@ -1,7 +1,7 @@
 //! A gradebook: columns of points, dates, names and classes, each with rules of one kind. Ranges overlap, some rules have an imported
 //! style, half have a written priority, and some results are missing. If `stops`, every third rule has stop-if-true.
 
-use super::{kind, literal, number, part_of_rows, sheet, to_the_left, COLUMNS, RED};
+use super::{kind, literal, number, part_of_rows, rows_range, sheet, to_the_left, COLUMNS, RED};
 use crate::job::{Job, Kind, Operand, Range, Reference, Rule, Value};
 use crate::rng::Rng;
 
@@ -62,4 +62,21 @@ pub fn job(size: usize, rules: usize, stops: bool) -> Job {
     let rows = size / COLUMNS;
     let rules = (0..rules).map(|index| rule(index, rules, rows, stops)).collect();
     sheet(size, |index| value(&mut rng, index), rules)
+}
+
+/// From each region the cell of a column in its row.
+fn in_its_row(column: u16) -> Operand {
+    Operand::Reference(Reference { row: 0, col: column, absolute: 2, name: None })
+}
+
+/// Without stops and with every range the whole sheet. An expression compares two columns that have points alone: at a text it would defer.
+pub fn over_sheet(size: usize, rules: usize) -> Job {
+    let mut job = job(size, rules, false);
+    for rule in &mut job.rules {
+        rule.range = rows_range(0, 1, size / COLUMNS);
+        if let Kind::Expr { left, right, .. } = &mut rule.kind {
+            (*left, *right) = (in_its_row(0), in_its_row(7));
+        }
+    }
+    job
 }

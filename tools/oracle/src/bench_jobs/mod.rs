@@ -1,10 +1,15 @@
 //! Jobs for the measurement: each rule kind alone and a gradebook with all of them, with rules that divide the sheet or that all lie over
-//! the whole of it; jobs by which two archives are compared; jobs that show why a side is slow; and texts and reports of rising length.
+//! the whole of it; jobs by which two archives are compared; jobs with a goal; jobs that show why a side is slow; and texts and reports of
+//! rising length.
 
+pub mod goals;
 mod gradebook;
+mod hostile;
 pub mod long;
+mod one_code;
 pub mod places;
 pub mod reasons;
+mod whole;
 
 use crate::job::{CellAt, Job, Kind, Operand, Range, Reference, Rgb24, Rule, Value};
 use crate::rng::Rng;
@@ -91,14 +96,16 @@ fn plain_rule(range: Range, kind: Kind) -> Rule {
     Rule { range, priority: None, stop: false, imported: false, kind }
 }
 
-/// A sheet of 16 columns with a region on each cell. One cell in five is a formula.
-fn sheet(size: usize, mut value: impl FnMut(usize) -> Value, rules: Vec<Rule>) -> Job {
-    let cell = |index: usize| {
-        let (row, col) = at(index);
-        CellAt { row, col, wraps: u8::from(index % 5 == 0), value: value(index) }
-    };
-    let cells = (0..size).map(cell).collect();
-    Job { limit: u64::MAX, start: 0, name: b"Grades".to_vec(), cells, regions: (0..size).map(at).collect(), rules }
+/// A sheet with a region on each cell. One cell in five is a formula.
+fn sheet_at(places: Vec<(u32, u16)>, mut value: impl FnMut(usize) -> Value, rules: Vec<Rule>) -> Job {
+    let cell = |(index, &(row, col)): (usize, &(u32, u16))| CellAt { row, col, wraps: u8::from(index % 5 == 0), value: value(index) };
+    let cells = places.iter().enumerate().map(cell).collect();
+    Job { limit: u64::MAX, start: 0, name: b"Grades".to_vec(), cells, regions: places, rules }
+}
+
+/// The same of 16 columns.
+fn sheet(size: usize, value: impl FnMut(usize) -> Value, rules: Vec<Rule>) -> Job {
+    sheet_at((0..size).map(at).collect(), value, rules)
 }
 
 /// Rows of part `part` of `parts`, as many as there are, at least one.
@@ -112,11 +119,8 @@ fn rows_range(part: usize, parts: usize, rows: usize) -> Range {
     Range { top, left: 0, bottom, right: COLUMNS as u16 - 1 }
 }
 
-/// Rules that divide the rows among them, so that all marks have space. With more rules than rows, several share a row.
-pub fn divided(name: &str, size: usize, rules: usize) -> Job {
-    if name == "gradebook" || name == "stops" {
-        return gradebook::job(size, rules, name == "stops");
-    }
+/// Points from 0 to 100, or texts of them for `words`, with a rule of one kind on each range.
+fn ruled(name: &str, size: usize, ranges: impl Iterator<Item = Range>) -> Job {
     let mut rng = Rng::new(2026, size as u64);
     let points = |_| {
         let points = rng.below(1001);
@@ -126,11 +130,24 @@ pub fn divided(name: &str, size: usize, rules: usize) -> Job {
             number(points as f64 / 10.0)
         }
     };
-    let rule = |index: usize| {
-        let range = rows_range(index, rules, size / COLUMNS);
-        plain_rule(range, kind(name, range))
+    sheet(size, points, ranges.map(|range| plain_rule(range, kind(name, range))).collect())
+}
+
+/// Rules that divide the rows among them, so that all marks have space. With more rules than rows, several share a row.
+pub fn divided(name: &str, size: usize, rules: usize) -> Job {
+    if name == "gradebook" || name == "stops" {
+        return gradebook::job(size, rules, name == "stops");
+    }
+    ruled(name, size, (0..rules).map(|index| rows_range(index, rules, size / COLUMNS)))
+}
+
+/// Rules of one column each. With more rules than columns, several share one.
+fn in_columns(name: &str, size: usize, rules: usize) -> Job {
+    let column = |index: usize| {
+        let column = (index % COLUMNS) as u16;
+        Range { left: column, right: column, ..rows_range(0, 1, size / COLUMNS) }
     };
-    sheet(size, points, (0..rules).map(rule).collect())
+    ruled(name, size, (0..rules).map(column))
 }
 
 /// Rules that all lie over the whole sheet. Its values are distinct but for the first two.

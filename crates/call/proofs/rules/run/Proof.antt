@@ -1,249 +1,237 @@
--- `call::rules::run` meets its contract. The walk leaves the table of the regions' own cells. The loop's invariant: the rules left come, from
--- the state that the loop has, to what all rules come to from the start; the counts stay small; the columns and tables keep their lengths
--- and the scratch is 0. A turn takes the next rule. The measure is how many rules are left. Assumes nothing.
-use Prim.Native.Nat.{ℕ, _-_, _≤_, _<_}
-use mathlib.Core.Path.{_≡_, refl, sym, ap, _∙_}
-use mathlib.Core.Bool.{true}
-use mathlib.Core.List.{List}
+-- `call::rules::run` meets its contract: the walk leaves the table of the regions' own cells, the numbers of the cells are cut to the
+-- cells, and the codes are there for the rules that ask for them. So the tables are right for each rule. Assumes nothing.
+use Prim.Native.Nat.{ℕ, _≤_, _<_}
 use native.Mathlib.Omega.{arith}
+use mathlib.Core.Path.{_≡_, sym, ap, _∙_}
+use mathlib.Core.List.{List, _++_}
 use denote.Ref.{now}
-use lib.ListN.{length, getD, replicate, length-replicate}
-use borrow.Author.Tests.{le-leb}
+use lib.Ieee.{Float, binary64, ofBits}
+use lib.ListN.{length, getD, take, drop, replicate, length-replicate}
+use lib.Seq.{length-take-le}
+use borrow.Author.Needs.{needs}
+use Rattle.model.specs.declared.Rule.{Rule}
 use Rattle.model.specs.Ratio.{zeroF}
+use Rattle.model.specs.Sheet.{CellColumns}
 use Rattle.cells.specs.Columns.{columns}
-use Rattle.places.specs.Walk.{walkFits}
 use Rattle.places.proofs.Table.{table-finds}
-use Rattle.order.specs.Order.{orderedRules}
-use Rattle.turns.specs.Emit.{markColumns, barColumns}
-use Rattle.turns.specs.Turns.{stateOf, leftBy, sheetIn, sayIn}
-use Rattle.turns.proofs.Running.{Small, small-next, Kept, Running, running-begun, running-next, running-ended, record-within}
+use Rattle.call.specs.Tables.{Numbered, Followed, Tabled}
+use Rattle.call.proofs.Tabling.{table-fits, front-within, front-long, front-numbered, tabled-of}
 use Rattle.call.proofs.rules.run.Statement.{statement}
 use Rattle.call.proofs.rules.run.Tie as tie
 
-abbrev Inv-loop : tie.InvT-loop
-Inv-loop start limit rows cols kinds wraps nums ats lens region-rows region-cols pool sheet regions₀ ruleids₀ markkinds₀ colours₀ ppms₀
-    barrules₀ barppms₀ scratch₀ rules order count places firsts₀ seconds₀ flags₀ ran₀ k₀ regions ruleids markkinds colours ppms barrules
-    barppms scratch firsts seconds flags ran k =
-    let say = sayIn (sheetIn (columns rows cols kinds wraps nums ats lens) region-rows region-cols pool sheet) limit region-rows region-cols
-    (length scratch₀) in
-    let marks₀ = markColumns regions₀ ruleids₀ markkinds₀ colours₀ ppms₀ in
-    let marks = markColumns regions ruleids markkinds colours ppms in
-    let bars₀ = barColumns barrules₀ barppms₀ in
-    let bars = barColumns barrules barppms in
-    Running say rules (stateOf ran₀ flags₀ marks₀ bars₀) (stateOf ran flags marks bars) k × Small ran k
-    × Kept marks₀ marks bars₀ bars scratch₀ scratch flags × (k ≤ count) × (length firsts ≡ 1024) × (length seconds ≡ 1024)
+-- an array of 0.0
+abbrev blank : List Float
+blank = replicate 1024 (ofBits binary64 0)
 
-abbrev μ-loop : tie.MeasureT-loop
-μ-loop start limit rows cols kinds wraps nums ats lens region-rows region-cols pool sheet regions₀ ruleids₀ markkinds₀ colours₀ ppms₀
-    barrules₀ barppms₀ scratch₀ rules order count places firsts₀ seconds₀ flags₀ ran₀ k₀ regions ruleids markkinds colours ppms barrules
-    barppms scratch firsts seconds flags ran k =
-    count - k
+blank-long : length blank ≡ 1024
+blank-long = length-replicate 1024 (ofBits binary64 0)
 
-zeros : length (replicate {A = ℕ} 1024 0) ≡ 1024
-zeros = length-replicate {A = ℕ} 1024 0
+-- ---- the tables
 
--- a table of 1,024 entries is fit for what the checks let through
-table-fits : (cells regions room : ℕ) → cells ≤ 1024 → regions ≤ 1024 → room ≡ 1024 → walkFits cells regions room ≡ true
-table-fits cells regions room c r e =
-    rw (le-leb regions room (omega (arith, r, e)), le-leb cells 65_535 (omega (arith, c)))
+module _ (c : tie.After-walk-cells) where
+  abbrev begun : tie.Start
+  begun = c .before .before .before .before .before .before .before .before .before .before .before .before .before .before .before
+      .before .before .before .before .before .before .before
 
-slice-aggregate-walk-cells : tie.Need-slice-aggregate-walk-cells Inv-loop μ-loop
-slice-aggregate-walk-cells c = sym zeros
+  abbrev cells : CellColumns
+  cells =
+      let a = begun .args in
+      columns (now (a .rows)) (now (a .cols)) (now (a .kinds)) (now (a .wraps)) (now (a .nums)) (now (a .ats)) (now (a .lens))
 
-loop-holds : tie.Need-loop-holds Inv-loop μ-loop
-loop-holds c =
-    let cleared = c .before .before .clear-f64 in
-    let none = c .before .before .before .before .none-yet .ensures in (
-      running-begun _ _ _,
-      rw none (record { marks = omega arith; deferred = omega arith; simplified = omega arith }),
-      record {
-        regions = refl;
-        rules = refl;
-        kinds = refl;
-        colours = refl;
-        ppms = refl;
-        barRules = refl;
-        barPpms = refl;
-        scratch = refl;
-        cleared = cleared .ensures ∙ ap (λ (n : ℕ). replicate n zeroF) (sym (cleared .kept .0));
-        flagged = zeros;
-      },
-      omega arith,
-      zeros,
-      zeros,
-    )
+  abbrev places : List ℕ
+  places = c .walk-cells .last .1 .1 .1 .1 .0
 
-array-read-index : tie.Need-array-read-index Inv-loop μ-loop
-array-read-index c = omega (
-  arith,
-  c .loop-test .taken,
-  c .before .before .before .before .before .before .before .before .before .before
-      .rule-count .ensures .1,
-)
+  followed : let a = begun .args in Followed cells (now (a .region-rows)) (now (a .region-cols)) places
+  followed i h =
+      let pre = begun .pre in
+      let fits = table-fits _ _ _ (pre .0 .1) (pre .1 .1) (length-replicate {A = ℕ} 1024 0) in
+      ap (λ (t : List ℕ). getD t i 0) (c .walk-cells .ensures .1) ∙ table-finds _ _ _ _ _ fits (pre .0 .0) (pre .1 .0) i h
 
-cast-at : tie.Need-cast-at Inv-loop μ-loop
-cast-at c =
-    let count = c .before .before .before .before .before .before .before .before .before .before in
-    omega (
-      arith,
-      count .rule-count .ensures .1,
-      record-within _ _ _ _ (count .before .order-rules .ensures) (count .rule-count .ensures .0) (c .loop-test .taken),
-    )
+  -- there are zeros for all cells
+  cut : length (take (length (cells .rows)) blank) ≡ length (cells .rows)
+  cut = length-take-le _ blank (omega (arith, begun .pre .0 .1, blank-long))
 
-mul-rule : tie.Need-mul-rule Inv-loop μ-loop
-mul-rule c =
-    let count = c .before .before .before .before .before .before .before .before .before .before in
-    omega (
-      arith,
-      count .rule-count .ensures .1,
-      record-within _ _ _ _ (count .before .order-rules .ensures) (count .rule-count .ensures .0) (c .loop-test .taken),
-    )
+  -- what is behind the numbers
+  abbrev rest : List Float
+  rest = drop (length (cells .rows)) blank
 
-element-copy-out-rule : tie.Need-element-copy-out-rule Inv-loop μ-loop
-element-copy-out-rule c =
-    let count = c .before .before .before .before .before .before .before .before .before .before in
-    omega (
-      arith,
-      count .rule-count .ensures .1,
-      record-within _ _ _ _ (count .before .order-rules .ensures) (count .rule-count .ensures .0) (c .loop-test .taken),
-    )
+module _ (c : tie.After-number-cells) where
+  abbrev front : List Float
+  front = c .number-cells .last .1 .1 .1 .1 .1 .0
 
-slice-aggregate-turn : tie.Need-slice-aggregate-turn Inv-loop μ-loop
-slice-aggregate-turn c = sym (c .before .before .before .before .before .before .before .before .before .before .walk-cells .kept .1 .1 .1
-    .1 .0 ∙ zeros)
+  abbrev walked : tie.After-walk-cells
+  walked = c .before .before .before
 
-slice-aggregate-turn-2 : tie.Need-slice-aggregate-turn-2 Inv-loop μ-loop
-slice-aggregate-turn-2 c = sym (c .before .before .before .before .loop .inv .4)
+  front-size : length front ≡ length (cells walked .rows)
+  front-size = c .number-cells .kept .1 .1 .1 .1 .1 .0 ∙ cut walked
 
-slice-aggregate-turn-3 : tie.Need-slice-aggregate-turn-3 Inv-loop μ-loop
-slice-aggregate-turn-3 c = sym (c .before .before .before .before .before .loop .inv .5)
+  within : length (cells walked .rows) ≤ length (front ++ rest walked)
+  within = front-within (cells walked) front (rest walked) front-size
 
-slice-aggregate-turn-4 : tie.Need-slice-aggregate-turn-4 Inv-loop μ-loop
-slice-aggregate-turn-4 c = sym (c .before .before .before .before .before .before .loop .inv .2 .flagged)
+  size : length (cells walked .rows) ≡ length (take (length (cells walked .rows)) (front ++ rest walked))
+  size = front-long (cells walked) front (rest walked) front-size
 
-turn-requires : tie.Need-turn-requires Inv-loop μ-loop
-turn-requires c κs =
-    let turn = c .before .before .before .before .before .before .before .before .before .before .before .before .before in
-    let inv = turn .before .loop .inv in
-    let walked = turn .before .before .before .before .before .before .before .before .walk-cells in
-    let few = turn .before .before .before .before .before .before .before .before .before .before .rule-count .ensures .1 in
-    let pre = turn .before .before .before .before .before .before .before .before .before .before .before .before .before .before .before
-    .before .before .before .before .before .before .before .before .before .before .before .before .before .before .before .pre in
-    let fits = table-fits _ _ _ (pre .0 .1) (pre .1 .1) zeros in (
+  numbered : Numbered (cells walked) (take (length (cells walked .rows)) (front ++ rest walked))
+  numbered =
+      front-numbered (cells walked) front (rest walked) front-size
+      (λ j h. c .number-cells .ensures (cells walked .rows) (cells walked .cols) j (omega (arith, h, cut walked)))
+
+-- they are right for each rule
+tabled : (c : tie.After-codes-for)
+    → let at = c .before .before .before .before .before .before .before in
+    let w = walked at in
+    let a = begun w .args in
+    (i : ℕ) (d : Rule) → i < w .before .before .rule-count .result
+    → Tabled (cells w) (now (a .pool)) (getD (a .rules .records) i d .kind) (now (a .region-rows)) (now (a .region-cols)) (places w)
+    (take (length (cells w .rows)) (front at ++ rest w)) (c .before .before .number-regions .last .1 .1 .0) (c .codes-for .result)
+tabled c i d h =
+    let at = c .before .before .before .before .before .before .before in
+    let w = walked at in
+    tabled-of (cells w) _ _ _ _ _ (followed w) (numbered at) (size at)
+    (λ k l. c .before .before .number-regions .ensures k (omega (arith, l, begun w .pre .1 .1, blank-long))) _ _ _
+    (c .codes-for .ensures .0 (cells w .cols) i d h)
+
+-- ---- the steps
+
+order-rules-requires : tie.Need-order-rules-requires
+order-rules-requires c κs = search needs
+
+rule-count-requires : tie.Need-rule-count-requires
+rule-count-requires c κs = search needs
+
+slice-aggregate-walk-cells : tie.Need-slice-aggregate-walk-cells
+slice-aggregate-walk-cells c = search needs
+
+walk-cells-requires : tie.Need-walk-cells-requires
+walk-cells-requires c κs = search needs
+
+array-borrow-prefix-floats : tie.Need-array-borrow-prefix-floats
+array-borrow-prefix-floats c = search needs
+
+slice-aggregate-number-cells : tie.Need-slice-aggregate-number-cells
+slice-aggregate-number-cells c = sym (cut (c .before .before))
+
+number-cells-requires : tie.Need-number-cells-requires
+number-cells-requires c κs = search needs
+
+slice-aggregate-number-regions : tie.Need-slice-aggregate-number-regions
+slice-aggregate-number-regions c = search needs
+
+array-share-prefix-floats : tie.Need-array-share-prefix-floats
+array-share-prefix-floats c = within (c .before .before)
+
+slice-aggregate-number-regions-2 : tie.Need-slice-aggregate-number-regions-2
+slice-aggregate-number-regions-2 c = size (c .before .before .before)
+
+slice-aggregate-number-regions-3 : tie.Need-slice-aggregate-number-regions-3
+slice-aggregate-number-regions-3 c = search needs
+
+number-regions-requires : tie.Need-number-regions-requires
+number-regions-requires c κs = search needs
+
+codes-for-requires : tie.Need-codes-for-requires
+codes-for-requires c κs = search needs
+
+slice-aggregate-run-rules : tie.Need-slice-aggregate-run-rules
+slice-aggregate-run-rules c = search needs
+
+array-share-prefix-floats-2 : tie.Need-array-share-prefix-floats-2
+array-share-prefix-floats-2 c = within (c .before .before .before .before .before .before .before .before)
+
+slice-aggregate-run-rules-2 : tie.Need-slice-aggregate-run-rules-2
+slice-aggregate-run-rules-2 c = size (c .before .before .before .before .before .before .before .before .before)
+
+slice-aggregate-run-rules-3 : tie.Need-slice-aggregate-run-rules-3
+slice-aggregate-run-rules-3 c = search needs
+
+slice-aggregate-run-rules-4 : tie.Need-slice-aggregate-run-rules-4
+slice-aggregate-run-rules-4 c = search needs
+
+run-rules-requires : tie.Need-run-rules-requires
+run-rules-requires c κs =
+    let coded = c .before .before .before .before .before .before .before .before .before .before .before .before in
+    let at = coded .before .before .before .before .before .before .before in
+    let count = walked at .before .before in
+    let pre = begun (walked at) .pre in
+    let few : length (coded .codes-for .result) ≡ 1024 = search needs in (
+      (count .before .order-rules .ensures, count .rule-count .ensures .0, count .rule-count .ensures .1),
       (
-        omega (arith, inv .1 .marks, turn .loop-test .taken, few),
-        omega (arith, inv .1 .deferred, turn .loop-test .taken, few),
-        omega (arith, inv .1 .simplified, turn .loop-test .taken, few),
-      ),
-      (
-        (pre .0 .0, pre .0 .1),
+        (pre .0 .0, pre .0 .1, pre .0 .2, omega (arith, pre .0 .1, few)),
         (
-          (omega (arith, pre .1 .1, inv .4), omega (arith, pre .1 .1, inv .5)),
-          λ i h. ap (λ (t : List ℕ). getD t i 0) (walked .ensures .1) ∙ table-finds _ _ _ _ _ fits (pre .0 .0) (pre .1 .0) i h,
+          (coded .codes-for .ensures .1, size at, pre .0 .3),
+          (pre .1 .1, pre .1 .2, omega (arith, pre .1 .1, coded .before .before .number-regions .kept .1 .1 .0, blank-long)),
         ),
       ),
     )
 
-add-k : tie.Need-add-k Inv-loop μ-loop
-add-k c = omega (
-  arith,
-  c .before .before .before .before .before .before .before .before .before .before .before .before .before .before
-      .before .before .before .before .before .before .before .before .before .before .before .before .before .before .before .before .before
-      .before .before .loop-test .taken,
-  c .before .before .before .before .before .before .before .before .before .before .before .before
-      .before .before .before .before .before .before .before .before .before .before .before .before .before .before .before .before .before
-      .before .before .before .before .before .before .before .before .before .before .before .before .before .before .rule-count .ensures .1,
-)
+clear-f64-requires : tie.Need-clear-f64-requires
+clear-f64-requires c κs = search needs
 
-loop-less : tie.Need-loop-less Inv-loop μ-loop
-loop-less c = omega (
-  arith,
-  c .before .before .before .before .before .before .before .before .before .before .before .before .before
-      .before .before .before .before .before .before .before .before .before .before .before .before .before .before .before .before .before
-      .before .before .before .loop-test .taken,
-)
+same-length : tie.Need-same-length
+same-length c = search needs
 
-loop-again : tie.Need-loop-again Inv-loop μ-loop
-loop-again c =
-    let turn = c .before .before .before .before .before .before .before .before .before .before .before .before .before .before .before
-    .before .before .before .before in
-    let test = turn .before .before .before .before .before .before .before .before .before .before .before .before .before .before in
-    let at = test .before .loop in
-    let count = test .before .before .before .before .before .before .before .before .before .before in
-    let a = count .before .before .before .before .before .before .before .before .before .before .before .before .before .before .before
-    .before .before .before .before .before .args in
-    let rules = a .t1 in
-    let rr = now (a .region-rows) in
-    let rc = now (a .region-cols) in
-    let cells = columns (now (a .rows)) (now (a .cols)) (now (a .kinds)) (now (a .wraps)) (now (a .nums)) (now (a .ats)) (now (a .lens)) in
-    let s = sheetIn cells rr rc (now (a .pool)) (a .sheet) in
-    let below : at .k < length (orderedRules rules) = omega (arith, test .loop-test .taken, count .rule-count .ensures .0) in
-    let k = turn .turn .kept in
-    let v = at .inv .2 in
-    let few = turn .turn .ensures .1 .0 in (
-      running-next _ _ _ _ _ (at .k) _ _ _ (count .before .order-rules .ensures) (ap (λ (n : ℕ). sayIn s (a .limit) rr rc n)
-          (v .scratch)) below
-          (at .inv .0) (turn .turn .ensures .0),
-      small-next (at .inv .1) (few .0) (few .1) (few .2),
-      record {
-        regions = k .1 .1 .1 .1 .1 .1 .1 .1 .1 .1 .1 .1 .1 .1 .1 .1 .1 .1 .1 .0 ∙ v .regions;
-        rules = k .1 .1 .1 .1 .1 .1 .1 .1 .1 .1 .1 .1 .1 .1 .1 .1 .1 .1 .1 .1 .0 ∙ v .rules;
-        kinds = k .1 .1 .1 .1 .1 .1 .1 .1 .1 .1 .1 .1 .1 .1 .1 .1 .1 .1 .1 .1 .1 .0 ∙ v .kinds;
-        colours = k .1 .1 .1 .1 .1 .1 .1 .1 .1 .1 .1 .1 .1 .1 .1 .1 .1 .1 .1 .1 .1 .1 .0 ∙ v .colours;
-        ppms = k .1 .1 .1 .1 .1 .1 .1 .1 .1 .1 .1 .1 .1 .1 .1 .1 .1 .1 .1 .1 .1 .1 .1 .0 ∙ v .ppms;
-        barRules = k .1 .1 .1 .1 .1 .1 .1 .1 .1 .1 .1 .1 .1 .1 .1 .1 .1 .1 .1 .1 .1 .1 .1 .1 .0 ∙ v .barRules;
-        barPpms = k .1 .1 .1 .1 .1 .1 .1 .1 .1 .1 .1 .1 .1 .1 .1 .1 .1 .1 .1 .1 .1 .1 .1 .1 .1 .0 ∙ v .barPpms;
-        scratch = k .1 .1 .1 .1 .1 .1 .1 .1 .1 .1 .1 .1 .1 .1 .1 .1 .1 .1 .1 .1 .1 .1 .1 .1 .1 .1 .0 ∙ v .scratch;
-        cleared = turn .turn .ensures .1 .1 ∙ ap (λ (n : ℕ). replicate n zeroF) (v .scratch);
-        flagged = k .1 .1 .1 .1 .1 .1 .1 .1 .1 .1 .1 .1 .1 .1 .1 .1 .1 .1 .0 ∙ v .flagged;
-      },
-      omega (arith, test .loop-test .taken),
-      k .1 .1 .1 .1 .1 .1 .1 .1 .1 .1 .1 .1 .1 .1 .1 .1 .0 ∙ at .inv .4,
-      k .1 .1 .1 .1 .1 .1 .1 .1 .1 .1 .1 .1 .1 .1 .1 .1 .1 .0 ∙ at .inv .5,
-    )
+same-length-2 : tie.Need-same-length-2
+same-length-2 c = search needs
 
-same-length : tie.Need-same-length Inv-loop μ-loop
-same-length c = c .before .loop .inv .2 .regions
+same-length-3 : tie.Need-same-length-3
+same-length-3 c = search needs
 
-same-length-2 : tie.Need-same-length-2 Inv-loop μ-loop
-same-length-2 c = c .before .loop .inv .2 .rules
+same-length-4 : tie.Need-same-length-4
+same-length-4 c = search needs
 
-same-length-3 : tie.Need-same-length-3 Inv-loop μ-loop
-same-length-3 c = c .before .loop .inv .2 .kinds
+same-length-5 : tie.Need-same-length-5
+same-length-5 c = search needs
 
-same-length-4 : tie.Need-same-length-4 Inv-loop μ-loop
-same-length-4 c = c .before .loop .inv .2 .colours
+same-length-6 : tie.Need-same-length-6
+same-length-6 c = search needs
 
-same-length-5 : tie.Need-same-length-5 Inv-loop μ-loop
-same-length-5 c = c .before .loop .inv .2 .ppms
+same-length-7 : tie.Need-same-length-7
+same-length-7 c = search needs
 
-same-length-6 : tie.Need-same-length-6 Inv-loop μ-loop
-same-length-6 c = c .before .loop .inv .2 .barRules
+same-length-8 : tie.Need-same-length-8
+same-length-8 c = search needs
 
-same-length-7 : tie.Need-same-length-7 Inv-loop μ-loop
-same-length-7 c = c .before .loop .inv .2 .barPpms
-
-same-length-8 : tie.Need-same-length-8 Inv-loop μ-loop
-same-length-8 c = c .before .loop .inv .2 .scratch ∙ c .before .before .before .before .clear-f64 .kept .0
-
-returns : tie.Need-returns Inv-loop μ-loop
+returns : tie.Need-returns
 returns c =
-    let at = c .before .loop in
-    let cleared = c .before .before .before .before .clear-f64 in
-    let none = c .before .before .before .before .before .before .none-yet .ensures in
-    let count = c .before .before .before .before .before .before .before .before .before .before in
-    let rules = count .before .before .before .before .before .before .before .before .before .before .before .before .before .before
-    .before .before .before .before .before .before .args .t1 in
-    let end : at .k ≡ length (orderedRules rules) =
-    omega (arith, at .inv .3, c .loop-test .left, count .rule-count .ensures .0)
-    in
-    let whole = ap leftBy (running-ended _ _ _ _ (at .k) end (at .inv .0)) in
-    (rw (cleared .kept .0, none) at whole, at .inv .2 .cleared ∙ ap (λ (n : ℕ). replicate n zeroF) (cleared .kept .0))
+    let ran = c .before .before .before .before .before .before .before .before .before .before .before .before .before .before .before
+    .before .before .before .before .before in
+    let coded = ran .before .before .before .before .before .before .before .before .before .before .before .before .before in
+    let a = begun (walked (coded .before .before .before .before .before .before .before)) .args in (
+      ran .run-rules .ensures (now (a .kinds)) (now (a .wraps)) (now (a .nums)) (now (a .ats)) (now (a .lens)) (tabled coded),
+      c .before .before .clear-f64 .ensures
+          ∙ ap (λ (n : ℕ). replicate n zeroF) (ran .run-rules .kept .1 .1 .1 .1 .1 .1 .1 .1 .1 .1 .1 .1 .1 .1 .1 .1 .1 .1 .1 .1 .1 .1 .0),
+    )
 
 pub run-spec : {M : Type 1} → statement M
 run-spec =
     tie.close
-    (tie.spec Inv-loop μ-loop (λ _ _. tt) (λ _ _. tt) slice-aggregate-walk-cells (λ _ _. tt) (λ _ _. tt)
-    (λ _ _. tt) loop-holds array-read-index cast-at mul-rule element-copy-out-rule
-    slice-aggregate-turn slice-aggregate-turn-2 slice-aggregate-turn-3 slice-aggregate-turn-4 turn-requires add-k loop-less loop-again
-    same-length same-length-2 same-length-3 same-length-4 same-length-5 same-length-6 same-length-7 same-length-8 returns)
+    (tie.spec
+    order-rules-requires
+    rule-count-requires
+    slice-aggregate-walk-cells
+    walk-cells-requires
+    array-borrow-prefix-floats
+    slice-aggregate-number-cells
+    number-cells-requires
+    slice-aggregate-number-regions
+    array-share-prefix-floats
+    slice-aggregate-number-regions-2
+    slice-aggregate-number-regions-3
+    number-regions-requires
+    codes-for-requires
+    slice-aggregate-run-rules
+    array-share-prefix-floats-2
+    slice-aggregate-run-rules-2
+    slice-aggregate-run-rules-3
+    slice-aggregate-run-rules-4
+    run-rules-requires
+    clear-f64-requires
+    same-length
+    same-length-2
+    same-length-3
+    same-length-4
+    same-length-5
+    same-length-6
+    same-length-7
+    same-length-8
+    returns)

@@ -1,150 +1,186 @@
--- `call::rules::turn` meets its contract: the tables are those of the sheet, so what the rule says by them is the definition's; with its
--- marks, stops and bars that makes up the definition's turn. Assumes nothing.
+-- `call::rules::turn` meets its contract. What is decided paints regions that are there and has no more of them than there is space for, by
+-- which the calls and the sums are safe. By the tables of the sheet it is the definition's step, and with its marks, stops and bars that
+-- makes up the definition's turn. Assumes nothing.
+use Prim.Native.Nat.{ℕ, _≤_, _<_}
 use native.Mathlib.Omega.{arith}
-use mathlib.Core.Path.{ap, _∙_}
-use mathlib.Core.List.{[]}
-use denote.Ref.{now}
-use lib.ListN.{length}
-use Rattle.model.specs.Sheet.{regionsFrom}
-use Rattle.steps.specs.declared.Step.{Step}
-use Rattle.steps.proofs.Placed.{step-placed}
+use mathlib.Core.Path.{sym}
+use mathlib.Core.List.{List}
+use lib.ListN.{length, getD, take}
+use lib.Seq.{length-take-le}
+use Rattle.hits.specs.Hits.{known}
+use Rattle.hits.proofs.Finding.{Fitting, fitting}
 use Rattle.turns.specs.Emit.{markColumns, barColumns}
-use Rattle.turns.specs.Turns.{stateOf, indexed, turn}
-use Rattle.turns.proofs.Laws.{turn-made}
-use Rattle.turns.proofs.Saying.{step-few}
+use Rattle.turns.specs.Turns.{stateOf, indexed}
+use Rattle.call.proofs.Turning.{front-below, turn-decided}
 use Rattle.call.proofs.rules.turn.Statement.{statement}
 use Rattle.call.proofs.rules.turn.Tie as tie
 
-find-operands-requires : tie.Need-find-operands-requires
-find-operands-requires c κs =
-    let pre = c .before .before .before .before .before .before .before .before .before .before .before .before .before .before .before
-    .before .before .before .before .before .before .before .before .before .pre in
-    (pre .1 .0 .0, pre .1 .0 .1, pre .1 .1 .0 .0, pre .1 .1 .0 .1)
+-- ---- on the way
 
-add-t62 : tie.Need-add-t62
-add-t62 c = omega (
-  arith,
-  c .before .before .before .before .before .before .before .before .before .before .before .before .before .before
-      .before .before .before .before .before .before .before .before .emit-marks .ensures .1 .1,
-  c .before .before .before .before .before
-      .before .before .before .before .before .before .before .before .before .before .before .before .before .before .before .before .before
-      .before .before .before .before .before .before .before .before .before .before .before .before .before .before .before .before .before
-      .before .before .before .before .before .before .before .before .before .before .before .before .before .before .before .before .before
-      .before .before .before .before .before .before .before .before .before .pre .0 .0,
-)
+abbrev entered : tie.After-decide → tie.Start
+entered c = c .before .before .before .before .before .before .before .before .before .before .before .before .before .before .before
+    .before .before .before .before .before .before .before .before .before .before .before .before .before .before
 
-add-t63 : tie.Need-add-t63
-add-t63 c =
-    let said = c .before .before .before .before .before .before .before .before .before .before .before .before .before .before .before
-    .before .before .before .before .before .before .before .before .before .before .before .before .before .before .before .before
-    .before .before in
-    let few = step-few _ _ _ _ _ _ _ _ (said .step-rule .ensures .0 [] (said .before .before .before .before .before .before .before
-    .before .before .before .before .before .before .before .before .before .before .before .before .before .before .before .before
-    .before .before .before .before .before .before .before .before .before .before .before .args .sheet)) in
-    omega (
-      arith,
-      few .deferred,
-      said .before .before .before .before .before .before .before .before .before .before .before .before
-          .before .before .before .before .before .before .before .before .before .before .before .before .before .before .before .before
-          .before .before .before .before .before .before .pre .0 .1,
-    )
+abbrev said-before : tie.After-painted → tie.After-decide
+said-before c = c .before .before .before .before .before .before .before .before .before .before .before
 
-add-t64 : tie.Need-add-t64
-add-t64 c =
-    let said = c .before .before .before .before .before .before .before .before .before .before .before .before .before .before .before
-    .before .before .before .before .before .before .before .before .before .before .before .before .before .before .before .before
-    .before .before .before .before in
-    let few = step-few _ _ _ _ _ _ _ _ (said .step-rule .ensures .0 [] (said .before .before .before .before .before .before .before
-    .before .before .before .before .before .before .before .before .before .before .before .before .before .before .before .before
-    .before .before .before .before .before .before .before .before .before .before .before .args .sheet)) in
-    omega (
-      arith,
-      few .simplified,
-      said .before .before .before .before .before .before .before .before .before .before .before .before
-          .before .before .before .before .before .before .before .before .before .before .before .before .before .before .before .before
-          .before .before .before .before .before .before .pre .0 .2,
-    )
+abbrev put-before : tie.After-draw-bars-arg2 → tie.After-put-marks
+put-before c = c .before .before .before .before .before .before .before .before .before .before .before .before .before .before .before
+    .before
+
+abbrev painted-before : tie.After-put-marks → tie.After-painted
+painted-before c = c .before .before .before .before .before .before .before
+
+abbrev drawn : tie.After-struct-known7 → tie.After-draw-bars
+drawn c = c .before .before .before .before .before .before .before .before .before .before
+
+abbrev stopped : tie.After-struct-known7 → tie.After-stop-regions
+stopped c = drawn c .before .before .before .before .before
+
+abbrev put : tie.After-struct-known7 → tie.After-put-marks
+put c = put-before (drawn c .before)
+
+abbrev said : tie.After-struct-known7 → tie.After-decide
+said c = said-before (painted-before (put c))
+
+-- ---- what is decided
+
+-- the table of hits
+abbrev hits : tie.After-decide → List ℕ
+hits c = c .decide .last .1 .1 .1 .1 .1 .1 .1 .1 .1 .1 .1 .1 .1 .1 .1 .1 .1 .0
+
+fit : (c : tie.After-decide) → let a = entered c .args in
+    Fitting (length (a .region-rows .now)) (known (a .values .now) (a .firsts .now) (a .seconds .now) (a .founds .now))
+    (a .region-cols .now) (a .flags .now) (length (a .hits .now))
+fit c = fitting _ _ _ _ _ (entered c .pre .1 .1 .1)
+
+short : (c : tie.After-decide) → c .decide .result .count ≤ length (hits c)
+short c = omega (arith, c .decide .ensures .1 .0 .0, fit c .within, c .decide .kept .1 .1 .1 .1 .1 .1 .1 .1 .1 .1 .1 .1 .1 .1 .1 .1 .1 .0)
+
+few : (c : tie.After-decide) → c .decide .result .count ≤ 1024
+few c = omega (arith, c .decide .ensures .1 .0 .0, fit c .few)
+
+below : (c : tie.After-decide) → let front = take (c .decide .result .count) (hits c) in
+    (k : ℕ) → k < length front → getD front k 0 < length (entered c .args .values .now)
+below c = front-below (hits c) (c .decide .result .count) _ _ (short c) (fit c .for-values) (c .decide .ensures .1 .1)
+
+-- ---- the needs
+
+decide-requires : tie.Need-decide-requires
+decide-requires c κs = c .before .before .before .before .before .before .before .before .before .before .before .before .before .before
+    .before .before .before .before .before .before .before .before .before .before .before .before .before .before .pre .1
+
+slice-reshare-prefix-painted : tie.Need-slice-reshare-prefix-painted
+slice-reshare-prefix-painted c = short (c .before .before .before .before .before .before .before .before .before .before)
+
+slice-aggregate-painted : tie.Need-slice-aggregate-painted
+slice-aggregate-painted c = sym (length-take-le _ _ (short (said-before c)))
+
+cast-put-marks : tie.Need-cast-put-marks
+cast-put-marks c = omega (arith, entered (said-before (c .before)) .pre .0 .0)
+
+put-marks-requires : tie.Need-put-marks-requires
+put-marks-requires c κs = below (said-before (c .before .before .before .before .before .before))
+
+draw-bars-requires : tie.Need-draw-bars-requires
+draw-bars-requires c κs = below (said-before (painted-before (put-before c)))
+
+cast-t64 : tie.Need-cast-t64
+cast-t64 c = omega (arith, few (said-before (painted-before (put-before (c .before .before .before .before .before .before)))))
+
+add-t65 : tie.Need-add-t65
+add-t65 c =
+    let s = said-before (painted-before (put-before (c .before .before .before .before .before .before .before))) in
+    omega (arith, few s, entered s .pre .0 .0)
+
+add-t66 : tie.Need-add-t66
+add-t66 c =
+    let s = said-before (painted-before (put-before (c .before .before .before .before .before .before .before .before .before))) in
+    omega (arith, s .decide .ensures .1 .0 .1, entered s .pre .0 .1)
+
+add-t67 : tie.Need-add-t67
+add-t67 c =
+    let s = said c in
+    omega (arith, s .decide .ensures .1 .0 .2, entered s .pre .0 .2)
 
 same-length : tie.Need-same-length
-same-length c = c .before .before .before .before .before .before .before .before .before .before .before .before .before .before .before
-    .before .before .before .before .before .before .before .before .before .before .before .before .before .before .before .before .before
-    .before .before .before .before .before .before .before .before .before .before .before .before .find-operands .kept .1 .1 .1 .1 .1 .1
-    .1 .1 .0
+same-length c = said c .decide .kept .1 .1 .1 .1 .1 .1 .1 .1 .1 .1 .1 .1 .1 .1 .0
 
 same-length-2 : tie.Need-same-length-2
-same-length-2 c = c .before .before .before .before .before .before .before .before .before .before .before .before .before .before .before
-    .before .before .before .before .before .before .before .before .before .before .before .before .before .before .before .before .before
-    .before .before .before .before .before .before .before .before .before .before .before .before .find-operands .kept .1 .1 .1 .1 .1 .1
-    .1 .1 .1 .0
+same-length-2 c = said c .decide .kept .1 .1 .1 .1 .1 .1 .1 .1 .1 .1 .1 .1 .1 .1 .1 .0
 
 same-length-3 : tie.Need-same-length-3
-same-length-3 c = c .before .before .before .before .before .before .before .before .before .before .before .before .before .before
-    .stop-regions .kept .1 .1 .0
+same-length-3 c = said c .decide .kept .1 .1 .1 .1 .1 .1 .1 .1 .1 .1 .1 .1 .1 .1 .1 .1 .0
 
 same-length-4 : tie.Need-same-length-4
-same-length-4 c = c .before .before .before .before .before .before .before .before .before .before .before .before .before .before .before
-    .before .before .before .before .before .before .before .before .before .before .before .emit-marks .kept .1 .1 .1 .0
+same-length-4 c = said c .decide .kept .1 .1 .1 .1 .1 .1 .1 .1 .1 .1 .1 .1 .1 .1 .1 .1 .1 .0
 
 same-length-5 : tie.Need-same-length-5
-same-length-5 c = c .before .before .before .before .before .before .before .before .before .before .before .before .before .before .before
-    .before .before .before .before .before .before .before .before .before .before .before .emit-marks .kept .1 .1 .1 .1 .0
+same-length-5 c = stopped c .stop-regions .kept .1 .1 .0
 
 same-length-6 : tie.Need-same-length-6
-same-length-6 c = c .before .before .before .before .before .before .before .before .before .before .before .before .before .before .before
-    .before .before .before .before .before .before .before .before .before .before .before .emit-marks .kept .1 .1 .1 .1 .1 .0
+same-length-6 c = put c .put-marks .kept .1 .1 .1 .1 .1 .1 .0
 
 same-length-7 : tie.Need-same-length-7
-same-length-7 c = c .before .before .before .before .before .before .before .before .before .before .before .before .before .before .before
-    .before .before .before .before .before .before .before .before .before .before .before .emit-marks .kept .1 .1 .1 .1 .1 .1 .0
+same-length-7 c = put c .put-marks .kept .1 .1 .1 .1 .1 .1 .1 .0
 
 same-length-8 : tie.Need-same-length-8
-same-length-8 c = c .before .before .before .before .before .before .before .before .before .before .before .before .before .before .before
-    .before .before .before .before .before .before .before .before .before .before .before .emit-marks .kept .1 .1 .1 .1 .1 .1 .1 .0
+same-length-8 c = put c .put-marks .kept .1 .1 .1 .1 .1 .1 .1 .1 .0
 
 same-length-9 : tie.Need-same-length-9
-same-length-9 c = c .before .before .before .before .before .before .before .before .before .draw-bars .kept .1 .1 .0
+same-length-9 c = put c .put-marks .kept .1 .1 .1 .1 .1 .1 .1 .1 .1 .0
 
 same-length-10 : tie.Need-same-length-10
-same-length-10 c = c .before .before .before .before .before .before .before .before .before .draw-bars .kept .1 .1 .1 .0
+same-length-10 c = put c .put-marks .kept .1 .1 .1 .1 .1 .1 .1 .1 .1 .1 .0
 
 same-length-11 : tie.Need-same-length-11
-same-length-11 c = c .before .before .before .before .before .before .before .before .before .before .before .before .before .before
-    .before .before .before .before .before .before .before .before .before .before .before .before .before .before .before .before .before
-    .before .before .before .before .step-rule .kept .1 .1 .1 .1 .1 .1 .1 .1 .1 .1 .1 .1 .1 .1 .1 .1 .1 .0
+same-length-11 c = drawn c .draw-bars .kept .1 .1 .1 .1 .0
+
+same-length-12 : tie.Need-same-length-12
+same-length-12 c = drawn c .draw-bars .kept .1 .1 .1 .1 .1 .0
+
+same-length-13 : tie.Need-same-length-13
+same-length-13 c = said c .decide .kept .1 .1 .1 .1 .1 .1 .1 .1 .1 .1 .1 .1 .1 .1 .1 .1 .1 .1 .0
 
 returns : tie.Need-returns
 returns c =
-    let drawn = c .before .before .before .before .before .before .before .before .before in
-    let stopped = drawn .before .before .before .before .before in
-    let emitted = stopped .before .before .before .before .before .before .before .before .before .before .before .before in
-    let said = emitted .before .before .before .before .before .before .before .before .before in
-    let found = said .before .before .before .before .before .before .before .before .before in
-    let entered = found .before .before .before .before .before .before .before .before .before .before .before .before .before .before
-    .before .before .before .before .before .before .before .before .before .before .before in
-    let a = entered .args in
-    let regions = regionsFrom (now (a .region-rows)) (now (a .region-cols)) 0 (length (now (a .region-rows))) in
-    let named = said .step-rule .ensures .0 regions (a .sheet) in
-    let is = named
-    ∙ step-placed _ _ _ _ _ _ _ _ _ _ _ _ (λ k e. record {
-      own = entered .pre .1 .1 .1;
-      first = found .find-operands .ensures .0 k e _ _ _ _ _;
-      second = found .find-operands .ensures .1 k e _ _ _ _ _;
-    }) in
-    let few = step-few _ _ _ _ _ _ _ _ named in
-    let i = indexed (a .index) (a .rule) in
-    let marks = markColumns (now (a .regions)) (now (a .ruleids)) (now (a .markkinds)) (now (a .colours)) (now (a .ppms)) in
-    let st = stateOf (a .ran) (now (a .flags)) marks (barColumns (now (a .barrules)) (now (a .barppms))) in (
-      turn-made i (said .step-rule .result) st _ _ _ _ (emitted .emit-marks .ensures .0) (stopped .stop-regions .ensures)
-          (emitted .emit-marks .ensures .1 .0) (drawn .draw-bars .ensures) ∙ ap (λ (x : Step). turn i x st) is,
-      (
-        (omega (arith, emitted .emit-marks .ensures .1 .1), omega (arith, few .deferred), omega (arith, few .simplified)),
-        said .step-rule .ensures .1,
-      ),
+    let s = said c in
+    let a = entered s .args in
+    let marks = markColumns (a .regions .now) (a .ruleids .now) (a .markkinds .now) (a .colours .now) (a .ppms .now) in
+    let st = stateOf (a .ran) (a .flags .now) marks (barColumns (a .barrules .now) (a .barppms .now)) in
+    let once = s .decide .ensures .1 .0 in (
+      λ kinds wraps nums ats lens tabled. turn-decided (indexed (a .index) (a .rule)) _ st (a .values .now) (hits s) (s .decide .result)
+          (s .decide .ensures .0 kinds wraps nums ats lens tabled) _ _ _ (stopped c .stop-regions .ensures) (put c .put-marks .ensures)
+          (drawn c .draw-bars .ensures),
+      (omega (arith, few s), omega (arith, once .1), omega (arith, once .2)),
     )
 
 pub turn-spec : {M : Type 1} → statement M
 turn-spec =
     tie.close
-    (tie.spec find-operands-requires (λ _ _. tt) (λ _ _. tt) (λ _ _. tt) (λ _ _. tt) add-t62 add-t63 add-t64
-    same-length same-length-2 same-length-3 same-length-4 same-length-5 same-length-6 same-length-7 same-length-8 same-length-9
-    same-length-10 same-length-11 returns)
+    (tie.spec
+    decide-requires
+    slice-reshare-prefix-painted
+    slice-aggregate-painted
+    cast-put-marks
+    put-marks-requires
+    (λ _ _. tt)
+    draw-bars-requires
+    cast-t64
+    add-t65
+    add-t66
+    add-t67
+    same-length
+    same-length-2
+    same-length-3
+    same-length-4
+    same-length-5
+    same-length-6
+    same-length-7
+    same-length-8
+    same-length-9
+    same-length-10
+    same-length-11
+    same-length-12
+    same-length-13
+    returns)

@@ -2,6 +2,7 @@
 
 #[cfg(feature = "before")]
 mod before;
+mod goals;
 mod lengths;
 mod measure;
 mod saves;
@@ -20,8 +21,11 @@ use oracle::write::job_text;
 use lengths::Length;
 use measure::{lent_report, library, Measured};
 
-const USAGE: &str = "usage: bench | bench before | bench saves | bench calls library|original divided|over KIND CELLS RULES TIMES";
+const USAGE: &str =
+    "usage: bench | bench before | bench goals | bench saves | bench calls library|original divided|over KIND CELLS RULES TIMES";
 const PASSES: usize = 8;
+/// There are more jobs with goals than in any other table.
+const GOAL_PASSES: usize = 6;
 
 fn main() -> ExitCode {
     run_command("bench", bench)
@@ -32,6 +36,7 @@ fn bench(args: &[&str]) -> Result<(), String> {
         [] => all_tables(),
         #[cfg(feature = "before")]
         ["before"] => before::tables(PASSES),
+        ["goals"] => goals::table(GOAL_PASSES),
         ["saves"] => saves::table(PASSES),
         ["calls", side, form, kind, cells, rules, times] => {
             calls(side, &chosen_job(form, kind, number(cells)?, number(rules)?)?, number(times)?)

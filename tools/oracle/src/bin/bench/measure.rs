@@ -5,6 +5,7 @@
 
 use std::time::{Duration, Instant};
 
+use oracle::answer::Refusal;
 use oracle::bench_jobs::refused_by_check;
 use oracle::checks::check;
 use oracle::clock::Clock;
@@ -73,21 +74,38 @@ pub struct Texts {
     pub checked: Vec<u8>,
     pub decided: Vec<u8>,
     answered: Vec<u8>,
+    /// That of the last one: 0, or 9 if its marks have no space.
+    number: u32,
 }
 
 impl Texts {
+    /// Of a job that is answered.
     pub fn new(what: &str, job: &Job) -> Result<Self, String> {
-        let count = decide(job, ORIGINAL).map_err(|refusal| format!("{what}: {refusal:?}"))?.count;
+        let texts = Texts::deciding(what, job)?;
+        if texts.number != 0 {
+            return Err(format!("{what}: its marks have no space"));
+        }
+        Ok(texts)
+    }
+
+    /// Of a job that is decided to its end, whether its marks have space or not.
+    pub fn deciding(what: &str, job: &Job) -> Result<Self, String> {
+        let (number, count) = match decide(job, ORIGINAL) {
+            Ok(answer) => (0, answer.count),
+            Err(Refusal { number: 9, count, .. }) => (9, count),
+            Err(refusal) => return Err(format!("{what}: {refusal:?}")),
+        };
         Ok(Texts {
             checked: job_text(&refused_by_check(job)),
             decided: job_text(&Job { limit: count - 1, ..job.clone() }),
             answered: job_text(job),
+            number,
         })
     }
 
     /// Both sides have to report the same on each text, by the number that it was made for.
     pub fn confirm(&self, what: &str, call: Call) -> Result<(), String> {
-        for (text, number) in [(&self.checked, 4), (&self.decided, 7), (&self.answered, 0)] {
+        for (text, number) in [(&self.checked, 4), (&self.decided, 7), (&self.answered, self.number)] {
             let mut lent = lent_report();
             let length = call(text, &mut lent);
             let theirs = report(text);

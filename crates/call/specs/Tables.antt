@@ -1,0 +1,77 @@
+-- The tables that are worked out once for a job, and what they have to do with its sheet: the numbers of the cells, those of the regions'
+-- cells, and the codes of the keys. Not-a-number stands for no number. Assumes nothing.
+use Prim.Native.Nat.{ℕ, zero, suc, _+_, _<_, min}
+use mathlib.Core.Path.{_≡_}
+use mathlib.Core.Bool.{true, cond, _&&_}
+use mathlib.Core.List.{List}
+use lib.Dec.{eqb}
+use lib.Ieee.{Float, nan}
+use lib.ListN.{length, getD}
+use Rattle.model.specs.declared.CfRule.{CfRule}
+use Rattle.model.specs.declared.ConditionalOperand.{ConditionalOperand}
+use Rattle.model.specs.declared.Range.{Range}
+use Rattle.model.specs.declared.Span.{Span}
+use Rattle.model.specs.Sheet.{CellColumns, cellFrom, inRange}
+use Rattle.model.specs.Readings.{numericCellValue, numericAt, keyAt}
+use Rattle.model.specs.References.{resolved}
+use Rattle.model.specs.Rule.{cellsIn, keys, times}
+use Rattle.cells.specs.Columns.{cellsOf, coordinateAt, entryAt, sheetWith}
+use Rattle.keys.specs.Names.{keysHeld, namesOf}
+use Rattle.hits.specs.Said.{asFloat}
+use Rattle.hits.specs.Hits.{numberAt}
+use Rattle.turns.specs.Step.{isDuplicates}
+use Rattle.turns.specs.Knowing.{InRange}
+
+-- the number of the cell that an entry of a table of places names
+unfoldable pub numberNamed : List Float → ℕ → Float
+numberNamed numbers zero = nan
+numberNamed numbers (suc place) = getD numbers place nan
+
+-- the number of each cell
+abbrev pub Numbered : CellColumns → List Float → Type 0
+Numbered c numbers = (j : ℕ) → j < length (c .rows) → getD numbers j nan ≡ asFloat (numericCellValue (cellFrom c j .cell))
+
+-- the place of each region's cell
+abbrev pub Followed : CellColumns → List ℕ → List ℕ → List ℕ → Type 0
+Followed c rows cols places = (i : ℕ) → i < length rows → getD places i 0 ≡ entryAt (c .rows) (c .cols) (coordinateAt rows cols i)
+
+-- the number of each region's cell
+abbrev pub Valued : CellColumns → List ℕ → List ℕ → List Float → Type 0
+Valued c rows cols values = (i : ℕ) → i < length rows → getD values i nan ≡ asFloat (numericAt (cellsOf c) (coordinateAt rows cols i))
+
+-- from each region in range an operand reads as the definition has it
+abbrev pub Meant : CellColumns → List ℕ → Span → Range → List ℕ → List ℕ → ConditionalOperand → List Float → Type 0
+Meant c pool name range rows cols o column =
+    InRange range rows cols
+    (λ i. numberAt column i ≡ resolved (sheetWith (cellsOf c) pool name) range (coordinateAt rows cols i) o)
+
+-- ---- codes of keys
+
+-- the code of the cell that an entry names, 0 for none
+unfoldable pub codeNamed : List ℕ → ℕ → ℕ
+codeNamed codes zero = 0
+codeNamed codes (suc place) = getD codes place 0
+
+-- how many of the n cells from index i on are in range and have a code
+unfoldable pub codedFrom : Range → List ℕ → List ℕ → List ℕ → ℕ → ℕ → ℕ → ℕ
+codedFrom range rows cols codes code i zero = 0
+codedFrom range rows cols codes code i (suc n) =
+    cond (inRange range (coordinateAt rows cols i) && eqb (getD codes i 0) code) 1 0 + codedFrom range rows cols codes code (suc i) n
+
+-- the codes tell the keys of the sheet apart
+abbrev pub Coded : List ℕ → CellColumns → List ℕ → Type 0
+Coded pool c codes = codes ≡ namesOf pool (keysHeld pool c 0 (min (length (c .rows)) 1024))
+
+-- of each region in range, how many cells in range have its key
+abbrev pub Founded : List ℕ → CellColumns → Range → List ℕ → List ℕ → List ℕ → Type 0
+Founded pool c range rows cols founds =
+    InRange range rows cols (λ i. getD founds i 0
+    ≡ times pool (keyAt pool (cellsOf c) (coordinateAt rows cols i)) (keys pool (cellsIn range (cellsOf c))))
+
+-- all of them are those of the sheet; codes are asked for only by a rule that counts keys
+pub record Tabled (c : CellColumns) (pool : List ℕ) (kind : CfRule) (rows cols places : List ℕ) (floats values : List Float)
+    (codes : List ℕ) : Type 0 where
+  pub numbered : Numbered c floats
+  pub followed : Followed c rows cols places
+  pub valued : Valued c rows cols values
+  pub coded : isDuplicates kind ≡ true → Coded pool c codes

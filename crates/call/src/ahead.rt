@@ -1,0 +1,69 @@
+// What a rule charges ahead of its regions.
+use charging::Charged;
+use charging::Counter;
+use model::CfRule;
+use model::Range;
+use model::Rule;
+use plans::takes_values;
+use ranges::within_grid;
+ghost use Prim.Native.Nat.{ℕ};
+ghost use mathlib.Core.Path.{_≡_};
+ghost use mathlib.Core.Bool.{_&&_};
+ghost use mathlib.Core.List.{List};
+ghost use Rattle.charging.specs.Charge.{spend};
+ghost use Rattle.model.specs.declared.CellCoordinate.{CellCoordinate};
+ghost use Rattle.model.specs.declared.Span.{Span};
+ghost use Rattle.model.specs.Sheet.{withinGrid};
+ghost use Rattle.model.specs.Rule.{ahead};
+ghost use Rattle.cells.specs.Columns.{columns, cellsOf};
+ghost use Rattle.ranges.specs.Turns.{sheetFrom};
+ghost use Rattle.turns.specs.Step.{isDuplicates, aheadOfRegions};
+
+// Whether the area of an upright range is charged at once.
+fn charges_area(kind: CfRule, range: Range) -> bool
+    ensures { λ r. ⌜ r ≡ (isDuplicates kind && withinGrid range) ⌝ }
+{
+    match kind {
+        CfRule::DuplicateValues { .. } => within_grid(range),
+        _ => false,
+    }
+}
+
+// What a rule charges ahead of its regions. What the cells hold has no part in it.
+fn charge_ahead(rule: Rule, counter: Counter, limit: u64, rows: &[u32], cols: &[u16]) -> Charged
+    ensures { λ r. ⌜ ((kinds wraps nums ats lens : List ℕ) (regions : List CellCoordinate) (pool : List ℕ) (name : Span) →
+        r ≡ spend limit (counter .count) (ahead (sheetFrom (cellsOf (columns (now (rows .entry)) (now (cols .entry)) kinds wraps nums
+        ats lens)) regions pool name) rule)) ⌝ }
+{
+    let range = rule.range;
+    let kind = rule.kind;
+    if !ranges::upright(range) {
+        return Charged::Within(counter);
+    }
+    if takes_values(kind) {
+        let count = ranges::cells_in(range, rows, cols);
+        return counter.charge_times(count as u64, limit);
+    }
+    if charges_area(kind, range) {
+        return counter.charge_area(ranges::area(range), limit);
+    }
+    Charged::Within(counter)
+}
+
+// The same after the charges so far. Nothing is charged once a charge is refused.
+pub(crate) fn charge_after(
+    rule: Rule,
+    charged: Charged,
+    limit: u64,
+    rows: &[u32],
+    cols: &[u16],
+) -> Charged
+    ensures { λ r. ⌜ ((kinds wraps nums ats lens : List ℕ) (regions : List CellCoordinate) (pool : List ℕ) (name : Span) →
+        r ≡ aheadOfRegions (sheetFrom (cellsOf (columns (now (rows .entry)) (now (cols .entry)) kinds wraps nums ats lens)) regions pool
+        name) rule limit charged) ⌝ }
+{
+    match charged {
+        Charged::Within(counter) => charge_ahead(rule, counter, limit, rows, cols),
+        _ => charged,
+    }
+}

@@ -1,0 +1,11 @@
+pub mod Numbers
+pub mod Comparisons
+pub mod Arms
+pub mod Stored
+pub mod Bytes
+pub mod Verdicts
+pub mod Chosen
+pub mod Keeping
+pub mod Judged
+pub mod Hitting
+pub mod Finding

@@ -1,0 +1,4 @@
+pub mod Verdict
+pub mod Said
+pub mod Hits
+pub mod Painted

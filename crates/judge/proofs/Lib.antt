@@ -1,4 +1,0 @@
-pub mod Regions
-pub mod Judging
-pub mod Placed
-pub mod Laws

@@ -1,0 +1,3 @@
+pub mod Finite
+pub mod Counts
+pub mod Keys

@@ -1,0 +1,60 @@
+-- How many regions are painted and where they stand, and the marks of painted regions as columns. Assumes nothing.
+use Prim.Native.Nat.{ℕ, zero, suc, _+_, _≤_, _<_}
+use mathlib.Core.Path.{_≡_, refl, ap}
+use mathlib.Core.Bool.{Bool}
+use mathlib.Core.List.{List, [], _∷_, map}
+use native.Mathlib.Omega.{arith}
+use lib.Ieee.{Float, nan}
+use lib.ListN.{length, getD, replicate}
+use lib.Seq.{sets}
+use Rattle.model.specs.declared.Outcome.{Outcome}
+use Rattle.model.specs.declared.Range.{Range}
+use Rattle.model.specs.declared.Test.{Test}
+use Rattle.model.specs.Run.{marksFrom}
+use Rattle.hits.specs.Hits.{Known, outcomesBy, hitsFrom}
+use Rattle.hits.specs.Painted.{kindBy, colourBy, ppmBy}
+use Rattle.turns.specs.Emit.{markColumns, putMark, putMarks, hitMark}
+
+pub outcomes-long : (k : Known) (range : Range) (t : Test) (imported : Bool) (rows cols flags : List ℕ) (i n : ℕ)
+    → length (outcomesBy k range t imported rows cols flags i n) ≡ n
+unfolding outcomesBy
+outcomes-long k range t imported rows cols flags i zero = refl
+outcomes-long k range t imported rows cols flags i (suc n) = ap suc (outcomes-long k range t imported rows cols flags (suc i) n)
+
+pub hits-few : (i : ℕ) (os : List Outcome) → length (hitsFrom i os) ≤ length os
+unfolding hitsFrom
+hits-few i [] = omega arith
+hits-few i (Outcome.Stopped ∷ os) = omega (arith, hits-few (suc i) os)
+hits-few i (Outcome.Passed ∷ os) = omega (arith, hits-few (suc i) os)
+hits-few i (Outcome.Unresolved ∷ os) = omega (arith, hits-few (suc i) os)
+hits-few i (Outcome.Painted p ∷ os) = omega (arith, hits-few (suc i) os)
+
+pub hits-marks : (rule i : ℕ) (os : List Outcome) → length (marksFrom rule i os) ≡ length (hitsFrom i os)
+unfolding marksFrom hitsFrom
+hits-marks rule i [] = refl
+hits-marks rule i (Outcome.Stopped ∷ os) = hits-marks rule (suc i) os
+hits-marks rule i (Outcome.Passed ∷ os) = hits-marks rule (suc i) os
+hits-marks rule i (Outcome.Unresolved ∷ os) = hits-marks rule (suc i) os
+hits-marks rule i (Outcome.Painted p ∷ os) = ap suc (hits-marks rule (suc i) os)
+
+-- each is one of the regions from i on
+hits-within : (i : ℕ) (os : List Outcome) (j : ℕ) → j < length (hitsFrom i os) → getD (hitsFrom i os) j 0 < i + length os
+unfolding hitsFrom
+hits-within i [] j h = omega arith
+hits-within i (Outcome.Stopped ∷ os) j h = omega (arith, hits-within (suc i) os j h)
+hits-within i (Outcome.Passed ∷ os) j h = omega (arith, hits-within (suc i) os j h)
+hits-within i (Outcome.Unresolved ∷ os) j h = omega (arith, hits-within (suc i) os j h)
+hits-within i (Outcome.Painted p ∷ os) zero h = omega arith
+hits-within i (Outcome.Painted p ∷ os) (suc j) h = omega (arith, hits-within (suc i) os j (omega arith))
+
+pub hits-below : (os : List Outcome) (j : ℕ) → j < length (hitsFrom 0 os) → getD (hitsFrom 0 os) j 0 < length os
+hits-below os j h = omega (arith, hits-within 0 os j h)
+
+-- each column by itself
+pub put-hits : (t : Test) (imported : Bool) (values : List Float) (rule : ℕ) (a b c d e : List ℕ) (n : ℕ) (hs : List ℕ)
+    → putMarks (markColumns a b c d e) n (map (hitMark t imported values rule) hs)
+    ≡ markColumns (sets a n hs) (sets b n (replicate (length hs) rule)) (sets c n (replicate (length hs) (kindBy t imported)))
+    (sets d n (map (λ h. colourBy t imported (getD values h nan)) hs)) (sets e n (map (λ h. ppmBy t (getD values h nan)) hs))
+unfolding putMarks putMark
+put-hits t imported values rule a b c d e n [] = refl
+put-hits t imported values rule a b c d e n (h ∷ hs) = put-hits t imported values rule _ _ _ _ _ (suc n) hs
