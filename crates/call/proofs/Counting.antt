@@ -1,10 +1,10 @@
--- How many cells in range have a code: one more cell, the loop that counts all codes at once, and the code of an entry. Assumes nothing.
+-- How many cells in range have a code: two runs of cells, none outside of the band, the loop over the band that counts all codes at once,
+-- and the code of an entry. Assumes nothing.
 use Prim.Native.Nat.{ℕ, zero, suc, _+_, _-_, _≤_, _<_}
 use native.Mathlib.Nat.{add-zero, zero-add}
-use native.Mathlib.Numerals.{add-one}
 use native.Mathlib.Omega.{arith}
-use mathlib.Core.Path.{_≡_, refl, sym, _∙_}
-use mathlib.Core.Bool.{Bool, true, false, cond, _&&_, and-false, and-true}
+use mathlib.Core.Path.{_≡_, refl, sym, ap₂, _∙_}
+use mathlib.Core.Bool.{Bool, true, false, cond, _&&_, and-false, and-true, true≢false}
 use mathlib.Core.List.{List}
 use mir.Val.{boolByte}
 use lib.Dec.{eqb}
@@ -14,15 +14,15 @@ use borrow.Author.Tests.{eqb-true, eqb-false}
 use Rattle.model.specs.declared.Range.{Range}
 use Rattle.model.specs.Sheet.{inRange}
 use Rattle.cells.specs.Columns.{coordinateAt}
+use Rattle.ranges.proofs.Laws.{byte-few}
+use Rattle.hits.specs.Hits.{columnIn}
+use Rattle.turns.specs.Bands.{BandOf}
+use Rattle.turns.proofs.Bands.{within-band, before-band, after-band}
 use Rattle.call.specs.Tables.{codeNamed, codedFrom}
 
 byte-bit : (b : Bool) → boolByte b ≡ cond b 1 0
 byte-bit true = refl
 byte-bit false = refl
-
-pub byte-few : (b : Bool) → boolByte b ≤ 1
-byte-few true = omega arith
-byte-few false = omega arith
 
 module _ (range : Range) (rows cols codes : List ℕ) where
   abbrev inside : ℕ → Bool
@@ -33,23 +33,21 @@ module _ (range : Range) (rows cols codes : List ℕ) where
   isCoded code i = inside i && eqb (getD codes i 0) code
 
   module _ (code : ℕ) where
-    coded-next : (i n : ℕ) → codedFrom range rows cols codes code i (suc n)
-        ≡ codedFrom range rows cols codes code i n + cond (isCoded code (i + n)) 1 0
+    -- one run of cells after another
+    coded-append : (i m n : ℕ) → codedFrom range rows cols codes code i (m + n)
+        ≡ codedFrom range rows cols codes code i m + codedFrom range rows cols codes code (i + m) n
     unfolding codedFrom
-    coded-next i zero = rw (add-zero i) (omega arith)
-    coded-next i (suc n) =
-        let e : i + suc n ≡ suc i + n = omega arith in
-        rw e (omega (arith, coded-next (suc i) n))
+    coded-append i zero n = rw (zero-add n, add-zero i) (sym (zero-add _))
+    coded-append i (suc m) n =
+        let e : suc m + n ≡ suc (m + n) = omega arith in
+        let f : i + suc m ≡ suc i + m = omega arith in
+        rw (e, f) (omega (arith, coded-append (suc i) m n))
 
     -- one more cell at the end
     coded-more : (n : ℕ) → codedFrom range rows cols codes code 0 (n + 1)
         ≡ codedFrom range rows cols codes code 0 n + cond (isCoded code n) 1 0
-    coded-more n = rw add-one (coded-next 0 n ∙ rw (zero-add n))
-
-    coded-few : (i n : ℕ) → codedFrom range rows cols codes code i n ≤ n
     unfolding codedFrom
-    coded-few i zero = omega arith
-    coded-few i (suc n) = omega (arith, byte-few (isCoded code i), byte-bit (isCoded code i), coded-few (suc i) n)
+    coded-more n = coded-append 0 n 1 ∙ rw (zero-add n, add-zero)
 
     -- where no cell in range has it
     pub coded-none : (i n : ℕ) → ((j : ℕ) → i ≤ j → j < i + n → inside j ≡ true → eqb (getD codes j 0) code ≡ false)
@@ -63,43 +61,66 @@ module _ (range : Range) (rows cols codes : List ℕ) where
         go true e later = rw (other i (omega arith) (omega arith) e, later)
         go false e later = rw later
 
-  -- the first i cells are counted, each under its code
-  pub record Counting (room : ℕ) (counts : List ℕ) (i : ℕ) : Type 0 where
-    pub long : length counts ≡ room
-    pub counted : (code : ℕ) → code < room → getD counts code 0 ≡ codedFrom range rows cols codes code 0 i
+    -- outside of the band no cell is counted
+    module _ {from to : ℕ} (band : BandOf range rows from to) where
+      coded-before : codedFrom range rows cols codes code 0 from ≡ 0
+      coded-before =
+          coded-none 0 from (λ j a b e. absurd (true≢false (sym e ∙ before-band band cols j (omega arith))))
 
-module _ {range : Range} {rows cols codes : List ℕ} where
-  pub counting-begun : (counts : List ℕ) → ((code : ℕ) → getD counts code 0 ≡ 0) → Counting range rows cols codes (length counts) counts 0
-  unfolding codedFrom
-  counting-begun counts none = record { long = refl; counted = λ code h. none code }
+      pub coded-band : codedFrom range rows cols codes code 0 to ≡ codedFrom range rows cols codes code 0 (length rows)
+      coded-band =
+          let all : to + (length rows - to) ≡ length rows = omega (arith, band .within) in
+          let after = coded-none to (length rows - to)
+          (λ j a b e. absurd (true≢false (sym e ∙ after-band band cols j a (omega arith)))) in
+          omega (arith, rw (all, zero-add) at (coded-append 0 to (length rows - to)), after)
 
-  module _ {room : ℕ} {counts : List ℕ} {i : ℕ} (v : Counting range rows cols codes room counts i) (within : getD codes i 0 < room) where
+-- the cells up to i are counted, each under its code; before the band none is in range, whatever the rows are
+pub record Counting (range : Range) (from to : ℕ) (cols codes : List ℕ) (room : ℕ) (counts : List ℕ) (i : ℕ) : Type 0 where
+  pub long : length counts ≡ room
+  pub few : (code : ℕ) → getD counts code 0 ≤ i
+  pub counted : (rows : List ℕ) → BandOf range rows from to → (code : ℕ) → code < room
+      → getD counts code 0 ≡ codedFrom range rows cols codes code 0 i
+
+module _ {range : Range} {from to : ℕ} {cols codes : List ℕ} where
+  pub counting-begun : (counts : List ℕ) → ((code : ℕ) → getD counts code 0 ≡ 0)
+      → Counting range from to cols codes (length counts) counts from
+  counting-begun counts none =
+      record {
+        long = refl;
+        few = λ code. omega (arith, none code);
+        counted = λ rows band code h. none code ∙ sym (coded-before range rows cols codes code band);
+      }
+
+  module _ {room : ℕ} {counts : List ℕ} {i : ℕ} (v : Counting range from to cols codes room counts i) (within : getD codes i 0 < room) where
     abbrev here : ℕ
     here = getD codes i 0
 
-    abbrev added : List ℕ
-    added = set counts here (getD counts here 0 + boolByte (inRange range (coordinateAt rows cols i)))
+    abbrev inColumn : Bool
+    inColumn = columnIn range (getD cols i 0)
 
-    pub counted-few : getD counts here 0 ≤ i
-    counted-few = omega (arith, v .counted here within, coded-few range rows cols codes here 0 i)
+    abbrev added : List ℕ
+    added = set counts here (getD counts here 0 + boolByte inColumn)
 
     -- what is counted under a code with this cell
-    counted-next : (code : ℕ) (same : Bool) → eqb here code ≡ same → code < room
-        → getD added code 0 ≡ codedFrom range rows cols codes code 0 i + cond (inRange range (coordinateAt rows cols i) && same) 1 0
-    counted-next code true e h =
+    added-at : (code : ℕ) (same : Bool) → eqb here code ≡ same → getD added code 0 ≡ getD counts code 0 + cond (inColumn && same) 1 0
+    added-at code true e =
         let same : here ≡ code = eqb-true here code e in
         rw (and-true, ← same)
-        (getD-set-same counts here _ 0 (omega (arith, within, v .long))
-        ∙ rw (v .counted here within, byte-bit (inRange range (coordinateAt rows cols i))))
-    counted-next code false e h =
-        rw (and-false, add-zero)
-        (getD-set-other counts here code _ 0 (λ q. eqb-false here code e (sym q)) ∙ v .counted code h)
+        (getD-set-same counts here _ 0 (omega (arith, within, v .long)) ∙ rw (byte-bit inColumn))
+    added-at code false e =
+        rw (and-false, add-zero) (getD-set-other counts here code _ 0 (λ q. eqb-false here code e (sym q)))
 
-    pub counting-turn : Counting range rows cols codes room added (i + 1)
-    counting-turn =
+    pub counting-turn : from ≤ i → i < to → Counting range from to cols codes room added (i + 1)
+    counting-turn a b =
         record {
           long = length-set counts here _ ∙ v .long;
-          counted = λ code h. counted-next code (eqb here code) refl h ∙ sym (coded-more range rows cols codes code i);
+          few = λ code.
+              let bit = inColumn && eqb here code in
+              omega (arith, added-at code (eqb here code) refl, v .few code, byte-few bit, byte-bit bit);
+          counted = λ rows band code h.
+              added-at code (eqb here code) refl
+              ∙ ap₂ (λ n inside. n + cond (inside && eqb here code) 1 0) (v .counted rows band code h) (sym (within-band band cols i a b))
+              ∙ sym (coded-more range rows cols codes code i);
         }
 
 -- ---- the code that an entry names

@@ -1,10 +1,12 @@
--- What is decided of a rule up to its marks is the definition's step of the rule: a rule without outcomes, the hits of outcomes that are
--- known, and both by the plan of the rule. Assumes nothing.
-use Prim.Native.Nat.{ℕ, zero, suc, _≤_, _<_}
+-- What is decided of a rule up to its marks is the definition's step of the rule: a rule without outcomes, the hits that are found among
+-- the regions in its rows, none where all regions are stopped, and these by the plan of the rule. Assumes nothing.
+use Prim.Native.Nat.{ℕ, zero, suc, _+_, _-_, _≤_, _<_}
+use native.Mathlib.Nat.{not-suc-le-zero}
+use native.Mathlib.Numerals.{add-one}
 use native.Mathlib.Omega.{arith}
 use mathlib.Core.Path.{_≡_, refl, sym, ap, subst, _∙_}
 use mathlib.Core.Bool.{Bool, true, false, cond, _&&_, _||_, false≢true}
-use mathlib.Core.List.{List, [], _∷_}
+use mathlib.Core.List.{List, [], _∷_, _++_, append-assoc}
 use lib.Ieee.{Float}
 use lib.ListN.{length, getD, take, replicate}
 use lib.Seq.{take-at, getD-take}
@@ -31,7 +33,7 @@ use Rattle.model.specs.References.{unread, resolved}
 use Rattle.model.specs.Comparison.{usesSecond}
 use Rattle.model.specs.Values.{average}
 use Rattle.model.specs.Rule.{scale2, scale3, bar, rank, against, mean, planOf, plan}
-use Rattle.model.specs.Run.{isUnresolved}
+use Rattle.model.specs.Run.{asked, isUnresolved}
 use Rattle.cells.specs.Columns.{cellsOf, coordinateAt, sheetWith}
 use Rattle.cells.proofs.Operands.{resolved-bare}
 use Rattle.ranges.specs.Turns.{sheetFrom}
@@ -39,16 +41,19 @@ use Rattle.plans.specs.Plans.{planOfValues, isBarTest, testsBar}
 use Rattle.plans.proofs.Laws.{plan-inverted, plan-upright}
 use Rattle.hits.specs.declared.Found.{Found}
 use Rattle.hits.specs.Verdict.{firstOperand, secondOperand}
-use Rattle.hits.specs.Hits.{Known, known, firstAt, secondAt, outcomesBy, hitsFrom, hitsOf, fitsHits, foundIn}
-use Rattle.hits.proofs.Finding.{fitting}
+use Rattle.hits.specs.Hits.{Known, known, firstAt, secondAt, outcomesBy, hitsFrom, hitsOf, unresolvedFrom, fitsHits, foundIn, liveFrom}
 use Rattle.turns.specs.Step.{outcomesFrom, Judged, judgedAs, judgedOf, judgedIn}
 use Rattle.turns.specs.Step.{Step, isDuplicates, aheadOfRegions, saidStep, stepFrom, stepOf}
 use Rattle.turns.specs.Knowing.{takesFirst, takesSecond, countsKeys, InRange, Knows}
+use Rattle.turns.specs.Bands.{BandOf}
 use Rattle.turns.specs.Emit.{Paints}
 use Rattle.turns.proofs.Charges.{refusals}
-use Rattle.turns.proofs.Stepping.{said-once, said-refused, from-refused, step-by-parts}
-use Rattle.turns.proofs.Painted.{outcomes-paint, none-paint}
-use Rattle.turns.proofs.Hits.{outcomes-long, hits-few, hits-below}
+use Rattle.turns.proofs.Stepping.{said-refused, from-refused, step-by-parts}
+use Rattle.turns.proofs.Painted.{whole-paints, none-paint}
+use Rattle.turns.proofs.Hits.{hits-few, hits-within}
+use Rattle.turns.proofs.Asked.{first-most}
+use Rattle.turns.proofs.Banded.{band-asked, band-asked-first, band-judged, band-painted}
+use Rattle.turns.proofs.Stopped.{stopped, stopped-judged, stopped-hits, stopped-paint, none-live}
 use Rattle.call.specs.declared.Decided.{Decided}
 use Rattle.call.specs.Tables.{Valued, Founded}
 use Rattle.call.specs.Decides.{Decides}
@@ -117,30 +122,6 @@ module _ (limit : ℕ) (test : Test) (os : List Outcome) (asked : ℕ) (unresolv
   accepted-decides n x c is within count counted front paints =
       rw (← is, within)
       (record { charged = refl; deferred = refl; simplified = refl; count = counted; painted = front; paints = paints })
-
--- the hits are few, and each is a region
-module _ (bar : Bool) (j : Judged) (x : Charged) (imported : Bool) (values : List Float) (hits : List ℕ) (d : Decided)
-    (says : Decides (saidStep bar j x) imported values hits d) (n : ℕ) (short : length (j .outcomes) ≤ n) where
-  said-short : (y : Charged) → length (saidStep bar j y .outcomes) ≤ n
-  unfolding saidStep
-  said-short (Charged.Within c) = short
-  said-short (Charged.LimitExceeded c actual) = omega arith
-  said-short (Charged.CoordinateOverflow c) = omega arith
-
-  pub decided-few : (d .count ≤ n) × (d .deferred ≤ 1) × (d .simplified ≤ 1)
-  decided-few =
-      let once = said-once bar j x in (
-        omega (arith, says .count, hits-few 0 (saidStep bar j x .outcomes), said-short x),
-        omega (arith, says .deferred, once .0),
-        omega (arith, says .simplified, once .1),
-      )
-
-  pub decided-hits : (k : ℕ) → k < d .count → getD hits k 0 < n
-  decided-hits k h =
-      let os = saidStep bar j x .outcomes in
-      let at : getD hits k 0 ≡ getD (hitsFrom 0 os) k 0 = sym (getD-take (d .count) hits k 0 h)
-      ∙ ap (λ (l : List ℕ). getD l k 0) (says .painted) in
-      omega (arith, at, hits-below os k (omega (arith, says .count)), said-short x)
 
 -- ---- a plan that counts keys is that of duplicates
 
@@ -220,80 +201,144 @@ module _ (c : CellColumns) (pool : List ℕ) (name : Span) (regions : List CellC
         found = found;
       }
 
--- columns as long as those that fit do so too
-pub fits-kept : (n : ℕ) (k new : Known) (cols flags : List ℕ) (room : ℕ) → length (new .values) ≡ length (k .values)
-    → length (new .firsts) ≡ length (k .firsts) → length (new .seconds) ≡ length (k .seconds)
-    → length (new .founds) ≡ length (k .founds) → fitsHits n k cols flags room ≡ true → fitsHits n new cols flags room ≡ true
-fits-kept n k new cols flags room a b c d fits = rw (a, b, c, d) fits
+-- other counts of keys, as many as those that fit
+pub fits-kept : (from to : ℕ) (values firsts seconds : List Float) (founds new : List ℕ) (cols flags : List ℕ) (room : ℕ)
+    → length new ≡ length founds → fitsHits from to (known values firsts seconds founds) cols flags room ≡ true
+    → fitsHits from to (known values firsts seconds new) cols flags room ≡ true
+fits-kept from to values firsts seconds founds new cols flags room e fits = rw e fits
 
--- ---- the hits of outcomes
+-- ---- outcomes of the regions from one on
 
--- the outcomes that count
-abbrev counting : List Outcome → List Outcome
-counting os = cond (isUnresolved os) [] os
+by-long : (k : Known) (range : Range) (t : Test) (imported : Bool) (cols flags : List ℕ) (i n : ℕ)
+    → length (outcomesBy k range t imported cols flags i n) ≡ n
+unfolding outcomesBy
+by-long k range t imported cols flags i zero = refl
+by-long k range t imported cols flags i (suc n) = ap suc (by-long k range t imported cols flags (suc i) n)
 
-hits-counting : (os : List Outcome) → hitsOf os ≡ hitsFrom 0 (counting os)
-unfolding hitsOf hitsFrom
-hits-counting os = go (isUnresolved os)
-  where
-    go : (b : Bool) → cond b [] (hitsFrom 0 os) ≡ hitsFrom 0 (cond b [] os)
-    go true = refl
-    go false = refl
+-- the hits that count
+module _ (i : ℕ) (os : List Outcome) where
+  hits-of-few : length (hitsOf i os) ≤ length os
+  unfolding hitsOf
+  hits-of-few = go (isUnresolved os)
+    where
+      go : (b : Bool) → length (cond b [] (hitsFrom i os)) ≤ length os
+      go true = omega arith
+      go false = hits-few i os
 
-counting-paint : (t : Test) (imported : Bool) (values : List Float) (os : List Outcome) → Paints t imported values os
-    → Paints t imported values (counting os)
-counting-paint t imported values os paints = go (isUnresolved os)
-  where
-    go : (b : Bool) → Paints t imported values (cond b [] os)
-    go true = none-paint t imported values
-    go false = paints
+  hits-of-between : (k : ℕ) → k < length (hitsOf i os) → getD (hitsOf i os) k 0 < i + length os
+  unfolding hitsOf
+  hits-of-between k = go (isUnresolved os)
+    where
+      go : (b : Bool) → k < length (cond b [] (hitsFrom i os)) → getD (cond b [] (hitsFrom i os)) k 0 < i + length os
+      go true h = absurd (not-suc-le-zero h)
+      go false h = hits-within i os k h
 
-counting-short : (os : List Outcome) → length (counting os) ≤ length os
-counting-short os = go (isUnresolved os)
-  where
-    go : (b : Bool) → length (cond b [] os) ≤ length os
-    go true = omega arith
-    go false = omega arith
+-- ---- what is found of the regions in the rows of a rule
 
--- numbers that fit are the front of a page
-front : (room count : ℕ) (l xs : List ℕ) → l ≡ pageOf true room xs → count ≡ length xs → length xs ≤ room → take count l ≡ xs
-front room count l xs is counted fits = ap (take count) (is ∙ page-fits 0 room xs fits) ∙ take-at xs _ count (sym counted)
-
--- what is found of a test, by tables that fit
-module _ (k : Known) (range : Range) (t : Test) (imported : Bool) (rows cols flags : List ℕ) where
+-- by tables that fit
+module _ (k : Known) (range : Range) (t : Test) (imported : Bool) (cols flags : List ℕ) (from to : ℕ) (f : Found) (fits : Bool)
+    (fit : fits ≡ true) (is : f ≡ foundIn fits from (outcomesBy k range t imported cols flags from (to - from))) where
   abbrev outcomes : List Outcome
-  outcomes = outcomesBy k range t imported rows cols flags 0 (length rows)
+  outcomes = outcomesBy k range t imported cols flags from (to - from)
 
-  pub found-short : length (counting outcomes) ≤ length rows
-  found-short = omega (arith, counting-short outcomes, outcomes-long k range t imported rows cols flags 0 (length rows))
+  outcomes-many : length outcomes ≡ to - from
+  outcomes-many = by-long k range t imported cols flags from (to - from)
 
-  module _ (room : ℕ) (fits : fitsHits (length rows) k cols flags room ≡ true) (f : Found)
-      (is : f ≡ foundIn (fitsHits (length rows) k cols flags room) outcomes) where
-    abbrev found : Judged
-    found = judgedAs (counting outcomes) (f .asked) (f .unresolved)
+  found-unresolved : f .unresolved ≡ isUnresolved outcomes
+  unfolding foundIn
+  found-unresolved = ap (λ (x : Found). x .unresolved) (rw fit at is)
 
-    pub found-judged : (os : List Outcome) → outcomes ≡ os → found ≡ judgedOf os
-    unfolding foundIn judgedOf
-    found-judged os e =
-        ap (λ (x : Found). judgedAs (counting outcomes) (x .asked) (x .unresolved)) (rw fits at is) ∙ ap judgedOf e
+  found-at : f .at ≡ unresolvedFrom from outcomes
+  unfolding foundIn
+  found-at = ap (λ (x : Found). x .at) (rw fit at is)
 
-    found-counted : f .count ≡ length (hitsFrom 0 (counting outcomes))
-    unfolding foundIn
-    found-counted = ap (λ (x : Found). x .count) (rw fits at is) ∙ ap length (hits-counting outcomes)
+  found-count : f .count ≡ length (hitsOf from outcomes)
+  unfolding foundIn
+  found-count = ap (λ (x : Found). x .count) (rw fit at is)
 
-    pub found-decides : (hits : List ℕ) → hits ≡ pageOf (fitsHits (length rows) k cols flags room) room (hitsOf outcomes)
+  -- the region that leaves the test unresolved is one of them
+  pub found-within : from ≤ to → f .unresolved ≡ true → f .at < to
+  found-within ordered some =
+      omega (arith, ordered, found-at, first-most from outcomes (sym found-unresolved ∙ some), outcomes-many)
+
+  pub found-few : f .count ≤ to - from
+  found-few = omega (arith, found-count, hits-of-few from outcomes, outcomes-many)
+
+  -- the hits are at the front of a table
+  module _ (room : ℕ) (large : to - from ≤ room) (page rest : List ℕ) (held : page ≡ pageOf fits room (hitsOf from outcomes)) where
+    pub found-front : take (f .count) (page ++ rest) ≡ hitsOf from outcomes
+    found-front =
+        let xs = hitsOf from outcomes in
+        ap (λ (l : List ℕ). take (f .count) (l ++ rest))
+        ((rw fit at held) ∙ page-fits 0 room xs (omega (arith, found-count, found-few, large)))
+        ∙ ap (take (f .count)) (append-assoc xs (replicate (room - length xs) 0) rest)
+        ∙ take-at xs (replicate (room - length xs) 0 ++ rest) (f .count) (sym found-count)
+
+    pub found-below : from ≤ to → (i : ℕ) → i < f .count → getD (page ++ rest) i 0 < to
+    found-below ordered i h =
+        let same : getD (page ++ rest) i 0 ≡ getD (hitsOf from outcomes) i 0 = sym (getD-take (f .count) (page ++ rest) i 0 h)
+        ∙ ap (λ (l : List ℕ). getD l i 0) found-front in
+        omega (arith, ordered, same, hits-of-between from outcomes i (omega (arith, h, found-count)), outcomes-many)
+
+-- held against all regions, where what is known of them is what the sheet has
+module _ (s : Sheet) (r : Rule) (t : Test) (rows cols flags : List ℕ) (k : Known) (knows : Knows s (r .range) t rows cols k) {from to : ℕ}
+    (band : BandOf (r .range) rows from to) where
+  abbrev whole : List Outcome
+  whole = outcomesFrom s r t rows cols flags 0 (length rows)
+
+  abbrev mid : List Outcome
+  mid = outcomesBy k (r .range) t (r .imported) cols flags from (to - from)
+
+  counting-paint : (unresolved : Bool) → Paints t (r .imported) (k .values) (cond unresolved [] whole)
+  counting-paint true = none-paint t (r .imported) (k .values)
+  counting-paint false = whole-paints s r t rows cols flags k knows
+
+  all-asked : (alive : ℕ) → alive ≡ liveFrom flags 0 (length rows)
+      → cond (isUnresolved mid) (liveFrom flags 0 (unresolvedFrom from mid + 1)) alive ≡ asked whole
+  all-asked alive all = go (isUnresolved mid) refl
+    where
+      go : (unresolved : Bool) → isUnresolved mid ≡ unresolved
+          → cond unresolved (liveFrom flags 0 (unresolvedFrom from mid + 1)) alive ≡ asked whole
+      go true e = rw add-one (sym (band-asked-first s r t rows cols flags k knows band e))
+      go false e = all ∙ sym (band-asked s r t rows cols flags k knows band e)
+
+  module _ (f : Found) (fits : Bool) (fit : fits ≡ true) (is : f ≡ foundIn fits from mid) where
+    pub found-decides : (alive n : ℕ) → alive ≡ liveFrom flags 0 (length rows)
+        → n ≡ cond (f .unresolved) (liveFrom flags 0 (f .at + 1)) alive → (hits : List ℕ) → take (f .count) hits ≡ hitsOf from mid
         → (limit : ℕ) (spent : Charged) (d : Decided)
         → ((os : List Outcome) → f .count ≡ length (hitsFrom 0 os) → take (f .count) hits ≡ hitsFrom 0 os
-        → Paints t imported (k .values) os
-        → Decides (stepFrom limit (isBarTest t) (judgedAs os (f .asked) (f .unresolved)) spent) imported (k .values) hits d)
-        → Decides (stepFrom limit (isBarTest t) found spent) imported (k .values) hits d
-    found-decides hits page limit spent d told =
-        let few = hits-few 0 (counting outcomes) in
-        let within = fitting (length rows) k cols flags room fits .within in
-        told (counting outcomes) found-counted
-        (front room (f .count) hits (hitsFrom 0 (counting outcomes)) ((rw fits at page) ∙ ap (pageOf true room) (hits-counting outcomes))
-        found-counted (omega (arith, few, found-short, within)))
-        (counting-paint t imported (k .values) outcomes (outcomes-paint k range t imported rows cols flags (length rows)))
+        → Paints t (r .imported) (k .values) os
+        → Decides (stepFrom limit (isBarTest t) (judgedAs os n (f .unresolved)) spent) (r .imported) (k .values) hits d)
+        → Decides (stepFrom limit (isBarTest t) (judgedOf whole) spent) (r .imported) (k .values) hits d
+    found-decides alive n all charged hits front limit spent d told =
+        let unresolved = found-unresolved k (r .range) t (r .imported) cols flags from to f fits fit is in
+        let count = found-count k (r .range) t (r .imported) cols flags from to f fits fit is in
+        let at = found-at k (r .range) t (r .imported) cols flags from to f fits fit is in
+        let painted = band-painted s r t rows cols flags k knows band in
+        let regions : n ≡ asked whole = (rw (unresolved, at) at charged) ∙ all-asked alive all in
+        decides-same (r .imported) (k .values) hits d _ _
+        (ap (λ (j : Judged). stepFrom limit (isBarTest t) j spent)
+        ((rw unresolved) ∙ band-judged s r t rows cols flags k knows band n regions))
+        (told (cond (isUnresolved mid) [] whole) (count ∙ ap length painted) (front ∙ painted) (counting-paint (isUnresolved mid)))
+
+-- ---- all regions are stopped
+
+-- nothing is found, as no region is looked at
+module _ (s : Sheet) (r : Rule) (t : Test) (rows cols flags : List ℕ) (none : liveFrom flags 0 (length rows) ≡ 0) (f : Found)
+    (is : f ≡ record { fits = true; unresolved = false; at = 0; count = 0 }) where
+  pub stopped-decides : (values : List Float) (hits : List ℕ) (limit : ℕ) (spent : Charged) (d : Decided)
+      → ((os : List Outcome) → f .count ≡ length (hitsFrom 0 os) → take (f .count) hits ≡ hitsFrom 0 os
+      → Paints t (r .imported) values os
+      → Decides (stepFrom limit (isBarTest t) (judgedAs os 0 (f .unresolved)) spent) (r .imported) values hits d)
+      → Decides (stepFrom limit (isBarTest t) (judgedOf (outcomesFrom s r t rows cols flags 0 (length rows))) spent) (r .imported) values
+      hits d
+  stopped-decides values hits limit spent d told =
+      let n = length rows in
+      let no-hits = stopped-hits 0 n in
+      decides-same (r .imported) values hits d _ _
+      (ap (λ (j : Judged). stepFrom limit (isBarTest t) j spent)
+      ((rw is) ∙ sym (stopped-judged n) ∙ ap judgedOf (sym (none-live s r t rows cols flags 0 n none))))
+      (told (stopped n) (rw (is, no-hits)) (rw (is, no-hits)) (stopped-paint t (r .imported) values n))
 
 -- ---- by the plan
 
@@ -320,8 +365,7 @@ module _ (s : Sheet) (r : Rule) (limit : ℕ) (rows cols flags : List ℕ) (char
   unfolding testsBar judgedIn
   by-skipped e h = by-plan Plan.Skipped e h
 
-  -- where what is judged is that of the outcomes
-  pub by-tested : (t : Test) → p ≡ Plan.Tested t → (j : Judged)
-      → j ≡ judgedOf (outcomesFrom s r t rows cols flags 0 (length rows)) → DecidesBy (stepFrom limit (isBarTest t) j spent) → DecidesRule
+  pub by-tested : (t : Test) → p ≡ Plan.Tested t
+      → DecidesBy (stepFrom limit (isBarTest t) (judgedOf (outcomesFrom s r t rows cols flags 0 (length rows))) spent) → DecidesRule
   unfolding testsBar judgedIn
-  by-tested t e j is h = by-plan (Plan.Tested t) e (subst (λ (x : Judged). DecidesBy (stepFrom limit (isBarTest t) x spent)) is h)
+  by-tested t e h = by-plan (Plan.Tested t) e h

@@ -22,6 +22,10 @@ module _ {A : Type 0} where
     pub filled-begun : FilledIn d wanted entry first first 0
     filled-begun = record { long = refl; filled = λ k h. absurd (omega arith) }
 
+    -- the indices before i are not wanted
+    pub filled-from : {i : ℕ} → ((k : ℕ) → k < i → wanted k ≡ false) → FilledIn d wanted entry first first i
+    filled-from e = record { long = refl; filled = λ k h t. absurd (true≢false (sym t ∙ e k h)) }
+
     module _ {table : List A} {i : ℕ} (v : FilledIn d wanted entry first table i) where
       pub filled-passed : wanted i ≡ false → FilledIn d wanted entry first table (i + 1)
       filled-passed e =

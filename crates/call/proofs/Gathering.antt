@@ -1,26 +1,32 @@
--- The loop that gathers numbers: each cell's float is stored behind those kept so far, and stays there only if the cell is in range and the
--- float is a number, which is where the cell has one. Assumes nothing.
-use Prim.Native.Nat.{ℕ, _+_, _≤_, _<_}
-use native.Mathlib.Nat.{add-zero, sub-zero}
-use native.Mathlib.Numerals.{add-one}
+-- The loop that gathers numbers: each float of the band is stored behind those kept so far, and stays there only if the cell is in range
+-- and the float is a number, which is where the cell has one. And where each cell of the band is in range and each float is a number, the
+-- numbers in range are the band's floats. Assumes nothing.
+use Prim.Native.Nat.{ℕ, zero, suc, _+_, _-_, _≤_, _<_}
+use native.Mathlib.Nat.{add-zero, zero-add}
+use native.Mathlib.Numerals.{add-one, one-add}
 use native.Mathlib.Omega.{arith}
 use mathlib.Core.Path.{_≡_, refl, sym, ap, _∙_}
 use mathlib.Core.Bool.{Bool, true, false, cond, _&&_}
-use mathlib.Core.List.{List, [], _∷_, _++_, append-assoc, append-nil}
+use mathlib.Core.List.{List, [], _∷_, _++_, foldr, append-assoc, append-nil}
 use mir.Val.{boolByte}
 use lib.Ieee.{Float, nan, eq}
-use lib.ListN.{length, getD, take, set}
-use lib.Seq.{take-suc-set, take-set-le}
+use lib.ListN.{length, getD, take, drop, set, length-take}
+use lib.Seq.{take-suc-set, take-set-le, drop-cons}
 use Rattle.model.specs.declared.Range.{Range}
 use Rattle.model.specs.declared.Reading.{Reading}
 use Rattle.model.specs.Sheet.{CellColumns, cellFrom}
 use Rattle.model.specs.Readings.{numericCellValue}
 use Rattle.model.specs.Rule.{cellsIn, withNumber, numbers}
 use Rattle.cells.specs.Columns.{cellsOf}
-use Rattle.ranges.proofs.Laws.{inRangeFrom, inRangeAt, left-none, left-within, left-outside}
+use Rattle.ranges.proofs.Laws.{inRangeFrom, inRangeAt, left-within, left-outside}
 use Rattle.hits.specs.Said.{readingOf}
+use Rattle.hits.specs.Hits.{columnIn}
+use Rattle.turns.specs.Bands.{BandOf}
 use Rattle.turns.proofs.Known.{numeric-back}
 use Rattle.call.specs.Tables.{Numbered}
+use Rattle.call.proofs.Banding.{band-begins, band-ends, band-at}
+
+-- ---- one cell
 
 -- a number in front of those that follow, if it counts
 abbrev ahead : Bool → Float → List Float → List Float
@@ -39,19 +45,6 @@ stored : (values : List Float) (count : ℕ) (x : Float) (later : List Float) (b
 stored values count x later true h = rw (add-one, take-suc-set values count x h) (append-assoc (take count values) (x ∷ []) later)
 stored values count x later false h = rw (add-zero, take-set-le count values count x (omega arith))
 
--- the numbers so far stand at the front, and those left go after them
-pub record Gathering (range : Range) (c : CellColumns) (values : List Float) (count i : ℕ) : Type 0 where
-  pub left : take count values ++ numbers (inRangeFrom range c i) ≡ numbers (cellsIn range (cellsOf c))
-
-module _ {range : Range} {c : CellColumns} where
-  pub gathering-begun : {values : List Float} → Gathering range c values 0 0
-  gathering-begun = record { left = rw sub-zero }
-
-  pub gathering-ended : {values : List Float} {count i : ℕ} → Gathering range c values count i → length (c .rows) ≤ i
-      → take count values ≡ numbers (cellsIn range (cellsOf c))
-  unfolding numbers
-  gathering-ended {values} {count} {i} v h = rw (left-none range c i h, append-nil) at (v .left)
-
 module _ (range : Range) (c : CellColumns) (floats : List Float) (numbered : Numbered c floats) (i : ℕ) (h : i < length (c .rows)) where
   abbrev float : Float
   float = getD floats i nan
@@ -65,10 +58,110 @@ module _ (range : Range) (c : CellColumns) (floats : List Float) (numbered : Num
   here-first true e = rw (left-within range c i h e, reads) (with-float float _)
   here-first false e = rw (left-outside range c i h e)
 
-  pub gathering-turn : {values : List Float} {count : ℕ} → Gathering range c values count i → count < length values
-      → Gathering range c (set values count float) (count + boolByte (inRangeAt range c i && eq float float)) (i + 1)
-  gathering-turn {values} {count} v l =
-      record {
-        left = stored values count float _ (inRangeAt range c i && eq float float) l
-            ∙ ap (λ later. take count values ++ later) (sym (here-first _ refl)) ∙ v .left;
-      }
+-- ---- the loop
+
+-- the numbers so far stand at the front, and those left go after them
+pub record Gathering (range : Range) (c : CellColumns) (values : List Float) (count i : ℕ) : Type 0 where
+  pub left : take count values ++ numbers (inRangeFrom range c i) ≡ numbers (cellsIn range (cellsOf c))
+
+module _ {range : Range} (c : CellColumns) {from to : ℕ} (band : BandOf range (c .rows) from to) where
+  pub gathering-begun : {values : List Float} → Gathering range c values 0 from
+  gathering-begun = record { left = ap numbers (sym (band-begins c band)) }
+
+  pub gathering-ended : {values : List Float} {count i : ℕ} → Gathering range c values count i → i ≡ to
+      → take count values ≡ numbers (cellsIn range (cellsOf c))
+  unfolding numbers
+  gathering-ended v e = rw (e, band-ends c band, append-nil) at (v .left)
+
+  module _ (floats : List Float) (numbered : Numbered c floats) (i : ℕ) (a : from ≤ i) (b : i < to) where
+    pub gathering-turn : {values : List Float} {count : ℕ} → Gathering range c values count i → count < length values
+        → Gathering range c (set values count (getD floats i nan))
+        (count + boolByte (columnIn range (getD (c .cols) i 0) && eq (getD floats i nan) (getD floats i nan))) (i + 1)
+    gathering-turn {values} {count} v l =
+        let x = getD floats i nan in
+        record {
+          left = stored values count x (numbers (inRangeFrom range c (i + 1))) (columnIn range (getD (c .cols) i 0) && eq x x) l
+              ∙ ap (λ later. take count values ++ later)
+              (sym (here-first range c floats numbered i (omega (arith, band .within)) _ (band-at c band i a b)))
+              ∙ v .left;
+        }
+
+-- ---- floats that are numbers
+
+abbrev pub numbersAmong : List Float → ℕ
+numbersAmong xs = foldr (λ x later. cond (eq x x) (suc later) later) 0 xs
+
+one-more : (b : Bool) (n : ℕ) → cond b (suc n) n ≡ boolByte b + n
+one-more true n = sym (one-add n)
+one-more false n = sym (zero-add n)
+
+module _ (xs : List Float) (i : ℕ) (h : i < length xs) where
+  -- what a loop at i has left to count
+  pub among-left : numbersAmong (drop i xs) ≡ boolByte (eq (getD xs i nan) (getD xs i nan)) + numbersAmong (drop (i + 1) xs)
+  among-left = rw (add-one, drop-cons xs i nan h) (one-more (eq (getD xs i nan) (getD xs i nan)) _)
+
+among-few : (xs : List Float) → numbersAmong xs ≤ length xs
+among-few [] = omega arith
+among-few (x ∷ xs) = go (eq x x) (among-few xs)
+  where
+    go : (b : Bool) → numbersAmong xs ≤ length xs → cond b (suc (numbersAmong xs)) (numbersAmong xs) ≤ suc (length xs)
+    go true h = omega arith
+    go false h = omega arith
+
+-- where all are numbers, the first is, and all behind it
+number-first : (x : Float) (xs : List Float) (n : ℕ) → length xs ≤ n → numbersAmong (x ∷ xs) ≡ suc n
+    → (eq x x ≡ true) × (numbersAmong xs ≡ n)
+number-first x xs n h e = go (eq x x) refl e
+  where
+    go : (b : Bool) → eq x x ≡ b → cond b (suc (numbersAmong xs)) (numbersAmong xs) ≡ suc n → (eq x x ≡ true) × (numbersAmong xs ≡ n)
+    go true p q = (p, omega arith)
+    go false p q = absurd (omega (arith, among-few xs))
+
+-- ---- a band of numbers in range
+
+module _ {range : Range} (c : CellColumns) {from to : ℕ} (band : BandOf range (c .rows) from to) where
+  -- of the n cells left of the band no more are in range
+  few-left : (n i : ℕ) → i + n ≡ to → length (inRangeFrom range c i) ≤ n
+  few-left zero i e = let end : i ≡ to = omega arith in rw (end, band-ends c band) (omega arith)
+  few-left (suc n) i e = go (inRangeAt range c i) refl (few-left n (i + 1) (omega arith))
+    where
+      h : i < length (c .rows)
+      h = omega (arith, band .within)
+
+      go : (here : Bool) → inRangeAt range c i ≡ here → length (inRangeFrom range c (i + 1)) ≤ n → length (inRangeFrom range c i) ≤ suc n
+      go true p later = omega (arith, ap length (left-within range c i h p))
+      go false p later = omega (arith, ap length (left-outside range c i h p))
+
+  -- where all are, the first is, and all behind it
+  inside-first : (n i : ℕ) → i + suc n ≡ to → length (inRangeFrom range c i) ≡ suc n
+      → (inRangeAt range c i ≡ true) × (length (inRangeFrom range c (i + 1)) ≡ n)
+  inside-first n i e all = go (inRangeAt range c i) refl
+    where
+      h : i < length (c .rows)
+      h = omega (arith, band .within)
+
+      go : (here : Bool) → inRangeAt range c i ≡ here → (inRangeAt range c i ≡ true) × (length (inRangeFrom range c (i + 1)) ≡ n)
+      go true p = (p, omega (arith, ap length (left-within range c i h p)))
+      go false p = absurd (omega (arith, ap length (left-outside range c i h p), few-left n (i + 1) (omega arith)))
+
+  module _ (floats : List Float) (numbered : Numbered c floats) (long : to ≤ length floats) where
+    -- of the n cells left of the band all are in range, and all floats are numbers
+    all-left : (n i : ℕ) → i + n ≡ to → length (inRangeFrom range c i) ≡ n → numbersAmong (take n (drop i floats)) ≡ n
+        → take n (drop i floats) ≡ numbers (inRangeFrom range c i)
+    unfolding numbers
+    all-left zero i e inside are = let end : i ≡ to = omega arith in rw (end, band-ends c band)
+    all-left (suc n) i e inside are =
+        let parts : take (suc n) (drop i floats) ≡ getD floats i nan ∷ take n (drop (i + 1) floats)
+        = rw (add-one, drop-cons floats i nan (omega arith)) in
+        let here = inside-first n i e inside in
+        let number = number-first (getD floats i nan) (take n (drop (i + 1) floats)) n
+        (omega (arith, length-take n (drop (i + 1) floats))) (rw parts at are) in
+        parts
+        ∙ rw (all-left n (i + 1) (omega arith) (here .1) (number .1))
+        (sym (here-first range c floats numbered i (omega (arith, band .within)) true (here .0) ∙ rw (number .0)))
+
+    pub all-in-band : length (cellsIn range (cellsOf c)) ≡ to - from → numbersAmong (take (to - from) (drop from floats)) ≡ to - from
+        → take (to - from) (drop from floats) ≡ numbers (cellsIn range (cellsOf c))
+    all-in-band inside are =
+        all-left (to - from) from (omega (arith, band .ordered)) (ap length (sym (band-begins c band)) ∙ inside) are
+        ∙ ap numbers (sym (band-begins c band))

@@ -1,8 +1,10 @@
 pub mod Seeking
+pub mod Banding
 pub mod Filling
 pub mod Tables
 pub mod Meaning
 pub mod Parting
+pub mod Aiming
 pub mod Gathering
 pub mod Counting
 pub mod Coding

@@ -27,9 +27,11 @@ AllTabled c pool records count rows cols places floats values codes =
     (i : ℕ) (d : Rule) → i < count → Tabled c pool (getD records i d .kind) rows cols places floats values codes
 
 -- the tables that have room fit
-pub fits-hits : (n : ℕ) (k : Known) (cols flags : List ℕ) (room : ℕ) → Fitting n k cols flags room → fitsHits n k cols flags room ≡ true
-fits-hits n k cols flags room f =
+pub fits-hits : (from to : ℕ) (k : Known) (cols flags : List ℕ) (room : ℕ) → Fitting from to k cols flags room
+    → fitsHits from to k cols flags room ≡ true
+fits-hits from to k cols flags room f =
     rw (
+      le-leb _ _ (f .ordered),
       le-leb _ _ (f .few),
       lt-ltb _ _ (f .within),
       le-leb _ _ (f .for-cols),

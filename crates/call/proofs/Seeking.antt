@@ -50,6 +50,13 @@ module _ (rows cols : List ℕ) (at : CellCoordinate) where
   sought-at (suc i) h e =
       rw (← add-one i) (sought-passed (sought-at i (omega arith) (λ k a. e k (omega arith))) (omega arith) (e i (omega arith)))
 
+  -- where none stands there, the entry is none
+  pub entry-missed : ((k : ℕ) → k < length rows → sameCoordinate (coordinateAt rows cols k) at ≡ false) → entryAt rows cols at ≡ 0
+  unfolding entryAt
+  entry-missed missed =
+      let sought = sought-at (length rows) (omega arith) missed in
+      rw (← sought-ended sought (omega arith), le-ltb (length rows) (length rows) (omega arith))
+
 -- the cells before `low` come before the coordinate, those from `high` on do not
 pub record Parted (rows cols : List ℕ) (at : CellCoordinate) (low high : ℕ) : Type 0 where
   pub ordered : low ≤ high
@@ -120,10 +127,7 @@ module _ (rows cols : List ℕ) (at : CellCoordinate) (rise : firstFall rows col
 
     -- where it does not stand there, none does
     pub entry-none : standsAt rows cols at r ≡ false → entryAt rows cols at ≡ 0
-    unfolding entryAt
-    entry-none s =
-        let sought = sought-at rows cols at (length rows) (omega arith) missed in
-        rw (← sought-ended sought (omega arith), le-ltb (length rows) (length rows) (omega arith))
+    entry-none s = entry-missed rows cols at missed
       where
         missed : (k : ℕ) → k < length rows → sameCoordinate (coordinateAt rows cols k) at ≡ false
         missed k h =

@@ -1,13 +1,13 @@
--- The tables of a job: codes of keys are small, the numbers of the cells stand at the front of an array, and with the places and the
--- numbers of the regions they make up what a rule needs. Assumes nothing.
+-- The tables of a job: codes of keys are small, and the numbers of the cells and the places and numbers of the regions, each at the front
+-- of an array, make up what a rule needs. Assumes nothing.
 use Prim.Native.Nat.{ℕ, _≤_, _<_, min}
 use native.Mathlib.Omega.{arith}
-use mathlib.Core.Path.{_≡_, refl, ap, _∙_}
+use mathlib.Core.Path.{_≡_, refl, sym, ap, _∙_}
 use mathlib.Core.Bool.{Bool, true, false}
 use mathlib.Core.List.{List, _++_}
 use lib.Ieee.{Float, nan}
-use lib.ListN.{length, getD, take, length-append}
-use lib.Seq.{take-append-seam}
+use lib.ListN.{length, getD, take, drop, replicate, length-append, length-replicate}
+use lib.Seq.{length-take-le, length-front, take-at, getD-take}
 use borrow.Author.Tests.{le-leb}
 use Rattle.model.specs.declared.CfRule.{CfRule}
 use Rattle.model.specs.declared.ConditionalValueKey.{ConditionalValueKey as Key}
@@ -40,26 +40,41 @@ coded-small pool c codes coded i =
 
 -- ---- places
 
--- a table of 1,024 entries is fit for what the checks let through
-pub table-fits : (cells regions room : ℕ) → cells ≤ 1024 → regions ≤ 1024 → room ≡ 1024 → walkFits cells regions room ≡ true
-table-fits cells regions room c r e =
-    rw (le-leb regions room (omega (arith, r, e)), le-leb cells 65_535 (omega (arith, c)))
+-- a table with an entry for each region is fit for what the checks let through
+pub table-fits : (cells regions room : ℕ) → cells ≤ 1024 → regions ≤ room → walkFits cells regions room ≡ true
+table-fits cells regions room c r = rw (le-leb regions room r, le-leb cells 65_535 (omega (arith, c)))
 
--- ---- numbers
+-- ---- the front of an array
 
--- one for each cell at the front of an array
-module _ (c : CellColumns) (front rest : List Float) (long : length front ≡ length (c .rows)) where
-  pub front-within : length (c .rows) ≤ length (front ++ rest)
+-- of 1,024 entries
+module _ {A : Type 0} (n : ℕ) (a : A) where
+  pub cut-within : n ≤ 1024 → n ≤ length (replicate 1024 a)
+  cut-within h = omega (arith, h, length-replicate 1024 a)
+
+  pub cut-long : n ≤ 1024 → length (take n (replicate 1024 a)) ≡ n
+  cut-long h = length-take-le n (replicate 1024 a) (cut-within h)
+
+  -- another front as long
+  pub cut-kept : (front : List A) → length front ≡ length (take n (replicate 1024 a)) → 1024 ≡ length (front ++ drop n (replicate 1024 a))
+  cut-kept front e = sym (length-front (replicate 1024 a) front n e ∙ length-replicate 1024 a)
+
+-- n entries with others behind them
+module _ {A : Type 0} (n : ℕ) (front rest : List A) (long : length front ≡ n) where
+  pub front-within : n ≤ length (front ++ rest)
   front-within = omega (arith, long, length-append front rest)
 
-  front-taken : take (length (c .rows)) (front ++ rest) ≡ front
-  front-taken = rw (← long) (take-append-seam front rest)
+  front-taken : take n (front ++ rest) ≡ front
+  front-taken = take-at front rest n long
 
-  pub front-long : length (c .rows) ≡ length (take (length (c .rows)) (front ++ rest))
+  pub front-long : n ≡ length (take n (front ++ rest))
   front-long = rw (front-taken, long)
 
-  pub front-numbered : Numbered c front → Numbered c (take (length (c .rows)) (front ++ rest))
-  front-numbered numbered j h = ap (λ (l : List Float). getD l j nan) front-taken ∙ numbered j h
+  -- by itself and in the array
+  pub taken-at : (i : ℕ) (d : A) → getD (take n (front ++ rest)) i d ≡ getD front i d
+  taken-at i d = ap (λ (l : List A). getD l i d) front-taken
+
+  pub front-at : (i : ℕ) (d : A) → i < n → getD (front ++ rest) i d ≡ getD front i d
+  front-at i d h = sym (getD-take n (front ++ rest) i d h) ∙ taken-at i d
 
 -- ---- all of them
 

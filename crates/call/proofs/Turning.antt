@@ -2,7 +2,7 @@
 use Prim.Native.Nat.{ℕ, _+_, _≤_, _<_}
 use native.Mathlib.Omega.{arith}
 use mathlib.Core.Path.{_≡_, sym, ap, _∙_}
-use mathlib.Core.Bool.{cond}
+use mathlib.Core.Bool.{Bool, false, cond}
 use mathlib.Core.List.{List, map}
 use lib.Ieee.{Float, nan}
 use lib.ListN.{length, getD, take}
@@ -26,6 +26,10 @@ pub front-below : (hits : List ℕ) (count n m : ℕ) → count ≤ length hits 
 front-below hits count n m short fits below k h =
     let here : k < count = omega (arith, h, length-take-le count hits short) in
     rw (getD-take count hits k 0 here) (omega (arith, fits, below k here))
+
+-- a rule that does not stop leaves the flags
+pub flags-kept : (stop : Bool) (painted flags new : List ℕ) → new ≡ cond stop (stopHits painted flags) flags → stop ≡ false → new ≡ flags
+flags-kept stop painted flags new e none = e ∙ ap (λ (b : Bool). cond b (stopHits painted flags) flags) none
 
 abbrev pub ranBy : Ran → Decided → Ran
 ranBy ran d =

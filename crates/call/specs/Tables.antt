@@ -1,19 +1,23 @@
 -- The tables that are worked out once for a job, and what they have to do with its sheet: the numbers of the cells, those of the regions'
--- cells, and the codes of the keys. Not-a-number stands for no number. Assumes nothing.
-use Prim.Native.Nat.{ℕ, zero, suc, _+_, _<_, min}
+-- cells, the numbers that operands read as, and the codes of the keys. Not-a-number stands for no number. Assumes nothing.
+use Prim.Native.Nat.{ℕ, zero, suc, _+_, _≤_, _<_, min}
 use mathlib.Core.Path.{_≡_}
-use mathlib.Core.Bool.{true, cond, _&&_}
+use mathlib.Core.Bool.{Bool, true, cond, not, _&&_, _||_}
 use mathlib.Core.List.{List}
+use mathlib.Core.Option.{none}
 use lib.Dec.{eqb}
 use lib.Ieee.{Float, nan}
 use lib.ListN.{length, getD}
+use Rattle.model.specs.declared.A1Reference.{A1Reference}
+use Rattle.model.specs.declared.Axis.{Axis}
 use Rattle.model.specs.declared.CfRule.{CfRule}
 use Rattle.model.specs.declared.ConditionalOperand.{ConditionalOperand}
 use Rattle.model.specs.declared.Range.{Range}
 use Rattle.model.specs.declared.Span.{Span}
-use Rattle.model.specs.Sheet.{CellColumns, cellFrom, inRange}
+use Rattle.model.specs.Sheet.{CellColumns, cellFrom, inRange, withinGrid}
 use Rattle.model.specs.Readings.{numericCellValue, numericAt, keyAt}
 use Rattle.model.specs.References.{resolved}
+use Rattle.model.specs.Job.{firstFall}
 use Rattle.model.specs.Rule.{cellsIn, keys, times}
 use Rattle.cells.specs.Columns.{cellsOf, coordinateAt, entryAt, sheetWith}
 use Rattle.keys.specs.Names.{keysHeld, namesOf}
@@ -21,6 +25,7 @@ use Rattle.hits.specs.Said.{asFloat}
 use Rattle.hits.specs.Hits.{numberAt}
 use Rattle.turns.specs.Step.{isDuplicates}
 use Rattle.turns.specs.Knowing.{InRange}
+use Rattle.turns.specs.Bands.{BandOf}
 
 -- the number of the cell that an entry of a table of places names
 unfoldable pub numberNamed : List Float → ℕ → Float
@@ -44,6 +49,22 @@ abbrev pub Meant : CellColumns → List ℕ → Span → Range → List ℕ → 
 Meant c pool name range rows cols o column =
     InRange range rows cols
     (λ i. numberAt column i ≡ resolved (sheetWith (cellsOf c) pool name) range (coordinateAt rows cols i) o)
+
+-- the row or the column that an axis means; outside the grid a number that none has
+unfoldable pub axisNumber : Axis → ℕ
+axisNumber (Axis.At v) = v
+axisNumber Axis.Outside = 4_294_967_296
+
+-- whether a reference means the target itself from each target in range
+unfoldable pub meansTarget : A1Reference → Range → Bool
+meansTarget f range =
+    not (f .«row_absolute» || f .«col_absolute») && eqb (f .row) (range .top) && eqb (f .col) (range .left) && withinGrid range
+
+-- the cells rise and are few, and those in the rows of a range are known
+pub record Banded (range : Range) (c : CellColumns) (from to : ℕ) : Type 0 where
+  pub rise : firstFall (c .rows) (c .cols) ≡ none
+  pub few : length (c .rows) ≤ 1024
+  pub band : BandOf range (c .rows) from to
 
 -- ---- codes of keys
 

@@ -1,4 +1,6 @@
 // What a rule charges ahead of its regions.
+use crate::Band;
+use crate::bands::cells_in;
 use charging::Charged;
 use charging::Counter;
 use model::CfRule;
@@ -6,10 +8,11 @@ use model::Range;
 use model::Rule;
 use plans::takes_values;
 use ranges::within_grid;
-ghost use Prim.Native.Nat.{ℕ};
+ghost use Prim.Native.Nat.{ℕ, _≤_};
 ghost use mathlib.Core.Path.{_≡_};
 ghost use mathlib.Core.Bool.{_&&_};
 ghost use mathlib.Core.List.{List};
+ghost use lib.ListN.{length};
 ghost use Rattle.charging.specs.Charge.{spend};
 ghost use Rattle.model.specs.declared.CellCoordinate.{CellCoordinate};
 ghost use Rattle.model.specs.declared.Span.{Span};
@@ -17,6 +20,7 @@ ghost use Rattle.model.specs.Sheet.{withinGrid};
 ghost use Rattle.model.specs.Rule.{ahead};
 ghost use Rattle.cells.specs.Columns.{columns, cellsOf};
 ghost use Rattle.ranges.specs.Turns.{sheetFrom};
+ghost use Rattle.turns.specs.Bands.{BandOf};
 ghost use Rattle.turns.specs.Step.{isDuplicates, aheadOfRegions};
 
 // Whether the area of an upright range is charged at once.
@@ -30,10 +34,11 @@ fn charges_area(kind: CfRule, range: Range) -> bool
 }
 
 // What a rule charges ahead of its regions. What the cells hold has no part in it.
-fn charge_ahead(rule: Rule, counter: Counter, limit: u64, rows: &[u32], cols: &[u16]) -> Charged
-    ensures { λ r. ⌜ ((kinds wraps nums ats lens : List ℕ) (regions : List CellCoordinate) (pool : List ℕ) (name : Span) →
-        r ≡ spend limit (counter .count) (ahead (sheetFrom (cellsOf (columns (now (rows .entry)) (now (cols .entry)) kinds wraps nums
-        ats lens)) regions pool name) rule)) ⌝ }
+fn charge_ahead(rule: Rule, counter: Counter, limit: u64, band: Band, cols: &[u16]) -> Charged
+    requires { ⌜ (band .from ≤ band .to) × (band .to ≤ 1024) × (band .to ≤ length (now cols)) ⌝ }
+    ensures { λ r. ⌜ ((rows kinds wraps nums ats lens : List ℕ) (regions : List CellCoordinate) (pool : List ℕ) (name : Span)
+        → BandOf (rule .range) rows (band .from) (band .to) → r ≡ spend limit (counter .count) (ahead (sheetFrom (cellsOf (columns rows
+        (now (cols .entry)) kinds wraps nums ats lens)) regions pool name) rule)) ⌝ }
 {
     let range = rule.range;
     let kind = rule.kind;
@@ -41,7 +46,7 @@ fn charge_ahead(rule: Rule, counter: Counter, limit: u64, rows: &[u32], cols: &[
         return Charged::Within(counter);
     }
     if takes_values(kind) {
-        let count = ranges::cells_in(range, rows, cols);
+        let count = cells_in(range, band, cols);
         return counter.charge_times(count as u64, limit);
     }
     if charges_area(kind, range) {
@@ -55,15 +60,16 @@ pub(crate) fn charge_after(
     rule: Rule,
     charged: Charged,
     limit: u64,
-    rows: &[u32],
+    band: Band,
     cols: &[u16],
 ) -> Charged
-    ensures { λ r. ⌜ ((kinds wraps nums ats lens : List ℕ) (regions : List CellCoordinate) (pool : List ℕ) (name : Span) →
-        r ≡ aheadOfRegions (sheetFrom (cellsOf (columns (now (rows .entry)) (now (cols .entry)) kinds wraps nums ats lens)) regions pool
-        name) rule limit charged) ⌝ }
+    requires { ⌜ (band .from ≤ band .to) × (band .to ≤ 1024) × (band .to ≤ length (now cols)) ⌝ }
+    ensures { λ r. ⌜ ((rows kinds wraps nums ats lens : List ℕ) (regions : List CellCoordinate) (pool : List ℕ) (name : Span)
+        → BandOf (rule .range) rows (band .from) (band .to) → r ≡ aheadOfRegions (sheetFrom (cellsOf (columns rows (now (cols .entry))
+        kinds wraps nums ats lens)) regions pool name) rule limit charged) ⌝ }
 {
     match charged {
-        Charged::Within(counter) => charge_ahead(rule, counter, limit, rows, cols),
+        Charged::Within(counter) => charge_ahead(rule, counter, limit, band, cols),
         _ => charged,
     }
 }

@@ -1,43 +1,75 @@
 // The numbers of the cells in range: conditional_numeric_values (conditional.rs) without its charges.
+use crate::Band;
+use crate::bands::cells_in;
 use model::Range;
-ghost use Prim.Native.Nat.{ℕ, _<_, _≤_};
+ghost use Prim.Native.Nat.{ℕ, suc, _≤_, _-_};
 ghost use mathlib.Core.Path.{_≡_};
-ghost use mathlib.Core.List.{List};
-ghost use lib.ListN.{length, getD, take};
+ghost use mathlib.Core.Bool.{true, cond};
+ghost use mathlib.Core.List.{List, foldr};
+ghost use lib.Ieee.{eq};
+ghost use lib.ListN.{length, take, drop};
 ghost use Rattle.model.specs.Rule.{cellsIn, numbers};
 ghost use Rattle.cells.specs.Columns.{columns, cellsOf};
+ghost use Rattle.turns.specs.Bands.{BandOf};
 ghost use Rattle.call.specs.Tables.{Numbered};
 
 // How many numbers the cells in range have, and the numbers in sheet order at the front of `values`. Each number is stored, and stays only
 // if it counts: so the loop has no branch.
 pub(crate) fn gather(
     range: Range,
-    rows: &[u32],
+    band: Band,
     cols: &[u16],
     floats: &[f64],
     values: &mut [f64],
 ) -> usize
-    requires { ⌜ (length (now rows) ≤ length (now cols)) × (length (now rows) ≤ length (now floats))
-        × (length (now rows) ≤ length (now values)) ⌝ }
-    ensures few { λ r. ⌜ r ≤ length (now (rows .entry)) ⌝ }
-    ensures values { λ r. ⌜ ((kinds wraps nums ats lens : List ℕ)
-        → Numbered (columns (now (rows .entry)) (now (cols .entry)) kinds wraps nums ats lens) (now (floats .entry))
-        → take r (now (values .exit)) ≡ numbers (cellsIn range (cellsOf (columns (now (rows .entry)) (now (cols .entry)) kinds wraps nums
-        ats lens)))) ⌝ }
+    requires { ⌜ (band .from ≤ band .to) × (band .to ≤ length (now cols)) × (band .to ≤ length (now floats))
+        × (band .to - band .from ≤ length (now values)) ⌝ }
+    ensures few { λ r. ⌜ r ≤ length (now (values .entry)) ⌝ }
+    ensures values { λ r. ⌜ ((rows kinds wraps nums ats lens : List ℕ) → BandOf range rows (band .from) (band .to)
+        → Numbered (columns rows (now (cols .entry)) kinds wraps nums ats lens) (now (floats .entry))
+        → take r (now (values .exit)) ≡ numbers (cellsIn range (cellsOf (columns rows (now (cols .entry)) kinds wraps nums ats lens)))) ⌝ }
 {
     let mut count = 0;
-    let mut i = 0;
-    while i < rows.len() {
-        let row = rows[i];
+    let mut i = band.from;
+    while i < band.to {
         let col = cols[i];
         let x = floats[i];
-        let inside = (range.top <= row)
-            & (row <= range.bottom)
-            & (range.left <= col)
-            & (col <= range.right);
+        let inside = (range.left <= col) & (col <= range.right);
         values[count] = x;
         count += (inside & (x == x)) as usize;
         i += 1;
     }
     count
+}
+
+// How many floats of a band are numbers.
+fn count_numbers(floats: &[f64]) -> u64
+    ensures { λ r. ⌜ r ≡ foldr (λ x later. cond (eq x x) (suc later) later) 0 (now (floats .entry)) ⌝ }
+{
+    let mut count = 0;
+    let mut i = 0;
+    while i < floats.len() {
+        let x = floats[i];
+        count += (x == x) as u64;
+        i += 1;
+    }
+    count
+}
+
+// Whether each cell of the band is in range and has a number: then the numbers in range are the band's floats. Each count is a loop of its
+// own, so that several cells are looked at in one step.
+pub(crate) fn all_numbers(range: Range, band: Band, cols: &[u16], floats: &[f64]) -> bool
+    requires { ⌜ (band .from ≤ band .to) × (band .to ≤ 1024) × (band .to ≤ length (now cols)) × (band .to ≤ length (now floats)) ⌝ }
+    ensures { λ r. ⌜ ((rows kinds wraps nums ats lens : List ℕ) → BandOf range rows (band .from) (band .to)
+        → Numbered (columns rows (now (cols .entry)) kinds wraps nums ats lens) (now (floats .entry)) → r ≡ true
+        → take (band .to - band .from) (drop (band .from) (now (floats .entry)))
+        ≡ numbers (cellsIn range (cellsOf (columns rows (now (cols .entry)) kinds wraps nums ats lens)))) ⌝ }
+{
+    let from = band.from;
+    let to = band.to;
+    let n = to - from;
+    if cells_in(range, band, cols) != n {
+        return false;
+    }
+    count_numbers(&floats[from..to]) == n as u64
 }

@@ -1,5 +1,6 @@
 // The call over lent columns: all that is lent for writing holds the complete result, or zeros.
 mod ahead;
+mod bands;
 mod columns;
 mod counts;
 mod gathered;
@@ -24,6 +25,12 @@ ghost use Rattle.model.specs.Columns.{columnsOf};
 ghost use Rattle.laws.specs.Demands.{lengthsOf};
 ghost use Rattle.checks.specs.Checked.{cellColumns, jobOf};
 ghost use Rattle.turns.specs.Lent.{lent};
+
+// The cells or the regions in the rows of a rule's range: those from index `from` up to `to`.
+struct Band {
+    from: usize,
+    to: usize,
+}
 
 // What a rule is decided to be: what the charges come to with its own, the test by which it paints, how many regions it paints, and 1 or 0
 // for a rule that counts as deferred and as simplified.

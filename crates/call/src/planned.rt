@@ -1,5 +1,8 @@
 // What a rule comes to, by the tables of the job, with the values of its range in lent scratch.
+use crate::Band;
+use crate::bands::cells_in;
 use crate::counts::count_keys;
+use crate::gathered::all_numbers;
 use crate::gathered::gather;
 use charging::Charged;
 use model::CfRule;
@@ -8,15 +11,16 @@ use model::Range;
 use model::Rgb;
 use model::Rule;
 use model::Test;
+use plans::Planned;
+use plans::plan_of_numbers;
 use plans::plan_of_operands;
 use plans::plan_of_values;
 use plans::takes_values;
 use ranges::within_grid;
-ghost use Prim.Native.Nat.{ℕ, _<_, _≤_};
+ghost use Prim.Native.Nat.{ℕ, _<_, _≤_, _-_};
 ghost use mathlib.Core.Path.{_≡_};
 ghost use mathlib.Core.Bool.{true, false};
 ghost use mathlib.Core.List.{List};
-ghost use mathlib.Core.Option.{none};
 ghost use lib.ListN.{length, getD};
 ghost use Rattle.charging.specs.declared.Counter.{Counter};
 ghost use Rattle.charging.specs.declared.Charged.{Charged};
@@ -25,49 +29,54 @@ ghost use Rattle.model.specs.declared.CfRule.{CfRule};
 ghost use Rattle.model.specs.declared.Plan.{Plan};
 ghost use Rattle.model.specs.declared.Span.{Span};
 ghost use Rattle.model.specs.declared.Test.{Test};
-ghost use Rattle.model.specs.Job.{firstFall};
 ghost use Rattle.model.specs.Rule.{cellsIn, numbers, covered, planOf, plan};
 ghost use Rattle.model.specs.Sheet.{upright};
 ghost use Rattle.cells.specs.Columns.{columns, cellsOf};
 ghost use Rattle.ranges.specs.Turns.{sheetFrom};
 ghost use Rattle.plans.specs.Plans.{takesValues, planOfValues};
+ghost use Rattle.turns.specs.Bands.{BandOf};
 ghost use Rattle.turns.specs.Step.{isDuplicates};
-ghost use Rattle.call.specs.Tables.{Numbered, Followed, Coded, codedFrom, Founded};
+ghost use Rattle.call.specs.Tables.{Numbered, Followed, Banded, Coded, codedFrom, Founded};
 
-// By the values of the range.
+// By the values of the range. Where they are the band's floats one by one, these are not copied.
 fn plan_by_values(
     kind: CfRule,
     range: Range,
-    rows: &[u32],
+    band: Band,
     cols: &[u16],
     floats: &[f64],
     scratch: &mut [f64],
 ) -> Plan
-    requires { ⌜ (length (now rows) ≤ length (now cols)) × (length (now rows) ≤ length (now floats))
-        × (length (now rows) ≤ length (now scratch)) ⌝ }
-    ensures { λ r. ⌜ ((kinds wraps nums ats lens : List ℕ)
-        → Numbered (columns (now (rows .entry)) (now (cols .entry)) kinds wraps nums ats lens) (now (floats .entry))
-        → r ≡ planOfValues kind (numbers (cellsIn range (cellsOf (columns (now (rows .entry)) (now (cols .entry)) kinds wraps nums ats
-        lens))))) ⌝ }
+    requires { ⌜ (band .from ≤ band .to) × (band .to ≤ 1024) × (band .to ≤ length (now cols)) × (band .to ≤ length (now floats))
+        × (band .to - band .from ≤ length (now scratch)) ⌝ }
+    ensures { λ r. ⌜ ((rows kinds wraps nums ats lens : List ℕ) → BandOf range rows (band .from) (band .to)
+        → Numbered (columns rows (now (cols .entry)) kinds wraps nums ats lens) (now (floats .entry))
+        → r ≡ planOfValues kind (numbers (cellsIn range (cellsOf (columns rows (now (cols .entry)) kinds wraps nums ats lens))))) ⌝ }
 {
-    let count = gather(range, rows, cols, floats, scratch);
+    if all_numbers(range, band, cols, floats) {
+        let from = band.from;
+        let to = band.to;
+        if let Planned::Of(plan) = plan_of_numbers(kind, &floats[from..to]) {
+            return plan;
+        }
+    }
+    let count = gather(range, band, cols, floats, scratch);
     plan_of_values(kind, &mut scratch[..count])
 }
 
 // Whether each coordinate of an upright range has a cell with a key: as many cells in range as it has coordinates, and none without a key.
-fn is_covered(range: Range, rows: &[u32], cols: &[u16], keyless: u16) -> bool
-    requires { ⌜ (firstFall (now rows) (now cols) ≡ none) × (length (now rows) ≤ 1024) ⌝ }
-    ensures { λ r. ⌜ ((kinds wraps nums ats lens codes pool : List ℕ) (regions : List CellCoordinate) (name : Span)
-        → upright range ≡ true
-        → Coded pool (columns (now (rows .entry)) (now (cols .entry)) kinds wraps nums ats lens) codes
-        → keyless ≡ codedFrom range (now (rows .entry)) (now (cols .entry)) codes 0 0 (length (now (rows .entry)))
-        → r ≡ covered (sheetFrom (cellsOf (columns (now (rows .entry)) (now (cols .entry)) kinds wraps nums ats lens)) regions pool name)
-        range) ⌝ }
+fn is_covered(range: Range, band: Band, cols: &[u16], keyless: u16) -> bool
+    requires { ⌜ (band .from ≤ band .to) × (band .to ≤ 1024) × (band .to ≤ length (now cols)) ⌝ }
+    ensures { λ r. ⌜ ((rows kinds wraps nums ats lens codes pool : List ℕ) (regions : List CellCoordinate) (name : Span)
+        → upright range ≡ true → Banded range (columns rows (now (cols .entry)) kinds wraps nums ats lens) (band .from) (band .to)
+        → Coded pool (columns rows (now (cols .entry)) kinds wraps nums ats lens) codes
+        → keyless ≡ codedFrom range rows (now (cols .entry)) codes 0 0 (length rows)
+        → r ≡ covered (sheetFrom (cellsOf (columns rows (now (cols .entry)) kinds wraps nums ats lens)) regions pool name) range) ⌝ }
 {
     if keyless != 0 {
         return false;
     }
-    ranges::cells_in(range, rows, cols) as u64 == ranges::area(range)
+    cells_in(range, band, cols) as u64 == ranges::area(range)
 }
 
 // Port of the arm CfRule::DuplicateValues (conditional.rs) up to its regions, without its charge. The counts of the regions' keys are left
@@ -76,31 +85,33 @@ fn plan_of_duplicates(
     unique: bool,
     fill: Rgb,
     range: Range,
-    rows: &[u32],
+    band: Band,
+    regions: Band,
     cols: &[u16],
     codes: &[u16],
     places: &[u16],
     founds: &mut [u16],
 ) -> Plan
-    requires { ⌜ (firstFall (now rows) (now cols) ≡ none) × (length (now rows) ≤ 1024) × (length (now rows) ≤ length (now cols))
-        × (length (now rows) ≤ length (now codes)) ⌝ }
-    requires { ⌜ ((i : ℕ) → getD (now codes) i 0 < 1025) ⌝ }
-    ensures plan { λ r. ⌜ ((kinds wraps nums ats lens pool : List ℕ) (regions : List CellCoordinate) (name : Span)
-        → upright range ≡ true → Coded pool (columns (now (rows .entry)) (now (cols .entry)) kinds wraps nums ats lens) (now (codes .entry))
-        → r ≡ planOf (sheetFrom (cellsOf (columns (now (rows .entry)) (now (cols .entry)) kinds wraps nums ats lens)) regions pool name)
-        range (CfRule.DuplicateValues unique fill)) ⌝ }
-    ensures founds { λ r. ⌜ ((kinds wraps nums ats lens pool regionRows regionCols : List ℕ) (test : Test) → upright range ≡ true
-        → Coded pool (columns (now (rows .entry)) (now (cols .entry)) kinds wraps nums ats lens) (now (codes .entry))
-        → Followed (columns (now (rows .entry)) (now (cols .entry)) kinds wraps nums ats lens) regionRows regionCols (now (places .entry))
-        → length regionRows ≤ length (now (founds .entry)) → r ≡ Plan.Tested test
-        → Founded pool (columns (now (rows .entry)) (now (cols .entry)) kinds wraps nums ats lens) range regionRows regionCols
-        (now (founds .exit))) ⌝ }
+    requires { ⌜ (band .from ≤ band .to) × (band .to ≤ 1024) × (band .to ≤ length (now cols)) × (band .to ≤ length (now codes)) ⌝ }
+    requires { ⌜ ((i : ℕ) → getD (now codes) i 0 < 1025) × (regions .from ≤ regions .to) × (regions .to ≤ length (now founds)) ⌝ }
+    ensures plan { λ r. ⌜ ((rows kinds wraps nums ats lens pool : List ℕ) (sheetRegions : List CellCoordinate) (name : Span)
+        → upright range ≡ true → Banded range (columns rows (now (cols .entry)) kinds wraps nums ats lens) (band .from) (band .to)
+        → Coded pool (columns rows (now (cols .entry)) kinds wraps nums ats lens) (now (codes .entry))
+        → r ≡ planOf (sheetFrom (cellsOf (columns rows (now (cols .entry)) kinds wraps nums ats lens)) sheetRegions pool name) range
+        (CfRule.DuplicateValues unique fill)) ⌝ }
+    ensures founds { λ r. ⌜ ((rows kinds wraps nums ats lens pool regionRows regionCols : List ℕ) (test : Test) → upright range ≡ true
+        → Banded range (columns rows (now (cols .entry)) kinds wraps nums ats lens) (band .from) (band .to)
+        → BandOf range regionRows (regions .from) (regions .to)
+        → Coded pool (columns rows (now (cols .entry)) kinds wraps nums ats lens) (now (codes .entry))
+        → Followed (columns rows (now (cols .entry)) kinds wraps nums ats lens) regionRows regionCols (now (places .entry))
+        → r ≡ Plan.Tested test
+        → Founded pool (columns rows (now (cols .entry)) kinds wraps nums ats lens) range regionRows regionCols (now (founds .exit))) ⌝ }
 {
     if !within_grid(range) {
         return Plan::Deferred;
     }
-    let keyless = count_keys(range, rows, cols, codes, places, founds);
-    if !is_covered(range, rows, cols, keyless) {
+    let keyless = count_keys(range, band, regions, cols, codes, places, founds);
+    if !is_covered(range, band, cols, keyless) {
         return Plan::Deferred;
     }
     Plan::Tested(Test::DuplicateValues { unique, fill })
@@ -110,32 +121,40 @@ fn plan_of_duplicates(
 fn plan_without_values(
     kind: CfRule,
     range: Range,
-    rows: &[u32],
+    band: Band,
+    regions: Band,
     cols: &[u16],
     codes: &[u16],
     places: &[u16],
     founds: &mut [u16],
 ) -> Plan
-    requires { ⌜ (firstFall (now rows) (now cols) ≡ none) × (length (now rows) ≤ 1024) × (length (now rows) ≤ length (now cols))
-        × (length (now rows) ≤ length (now codes)) ⌝ }
-    requires { ⌜ ((i : ℕ) → getD (now codes) i 0 < 1025) × (takesValues kind ≡ false) ⌝ }
-    ensures plan { λ r. ⌜ ((kinds wraps nums ats lens pool : List ℕ) (regions : List CellCoordinate) (name : Span) → upright range ≡ true
-        → (isDuplicates kind ≡ true → Coded pool (columns (now (rows .entry)) (now (cols .entry)) kinds wraps nums ats lens)
-        (now (codes .entry)))
-        → r ≡ planOf (sheetFrom (cellsOf (columns (now (rows .entry)) (now (cols .entry)) kinds wraps nums ats lens)) regions pool name)
-        range kind) ⌝ }
-    ensures founds { λ r. ⌜ ((kinds wraps nums ats lens pool regionRows regionCols : List ℕ) (test : Test) → upright range ≡ true
-        → isDuplicates kind ≡ true
-        → Coded pool (columns (now (rows .entry)) (now (cols .entry)) kinds wraps nums ats lens) (now (codes .entry))
-        → Followed (columns (now (rows .entry)) (now (cols .entry)) kinds wraps nums ats lens) regionRows regionCols (now (places .entry))
-        → length regionRows ≤ length (now (founds .entry)) → r ≡ Plan.Tested test
-        → Founded pool (columns (now (rows .entry)) (now (cols .entry)) kinds wraps nums ats lens) range regionRows regionCols
-        (now (founds .exit))) ⌝ }
+    requires { ⌜ (band .from ≤ band .to) × (band .to ≤ 1024) × (band .to ≤ length (now cols)) × (band .to ≤ length (now codes)) ⌝ }
+    requires { ⌜ ((i : ℕ) → getD (now codes) i 0 < 1025) × (regions .from ≤ regions .to) × (regions .to ≤ length (now founds))
+        × (takesValues kind ≡ false) ⌝ }
+    ensures plan { λ r. ⌜ ((rows kinds wraps nums ats lens pool : List ℕ) (sheetRegions : List CellCoordinate) (name : Span)
+        → upright range ≡ true → Banded range (columns rows (now (cols .entry)) kinds wraps nums ats lens) (band .from) (band .to)
+        → (isDuplicates kind ≡ true → Coded pool (columns rows (now (cols .entry)) kinds wraps nums ats lens) (now (codes .entry)))
+        → r ≡ planOf (sheetFrom (cellsOf (columns rows (now (cols .entry)) kinds wraps nums ats lens)) sheetRegions pool name) range kind) ⌝ }
+    ensures founds { λ r. ⌜ ((rows kinds wraps nums ats lens pool regionRows regionCols : List ℕ) (test : Test) → upright range ≡ true
+        → Banded range (columns rows (now (cols .entry)) kinds wraps nums ats lens) (band .from) (band .to)
+        → BandOf range regionRows (regions .from) (regions .to) → isDuplicates kind ≡ true
+        → Coded pool (columns rows (now (cols .entry)) kinds wraps nums ats lens) (now (codes .entry))
+        → Followed (columns rows (now (cols .entry)) kinds wraps nums ats lens) regionRows regionCols (now (places .entry))
+        → r ≡ Plan.Tested test
+        → Founded pool (columns rows (now (cols .entry)) kinds wraps nums ats lens) range regionRows regionCols (now (founds .exit))) ⌝ }
 {
     match kind {
-        CfRule::DuplicateValues { unique, fill } => {
-            plan_of_duplicates(unique, fill, range, rows, cols, codes, places, founds)
-        }
+        CfRule::DuplicateValues { unique, fill } => plan_of_duplicates(
+            unique,
+            fill,
+            range,
+            band,
+            regions,
+            cols,
+            codes,
+            places,
+            founds,
+        ),
         _ => plan_of_operands(kind),
     }
 }
@@ -143,7 +162,8 @@ fn plan_without_values(
 // What a rule comes to.
 fn plan_rule(
     rule: Rule,
-    rows: &[u32],
+    band: Band,
+    regions: Band,
     cols: &[u16],
     floats: &[f64],
     codes: &[u16],
@@ -151,23 +171,21 @@ fn plan_rule(
     founds: &mut [u16],
     scratch: &mut [f64],
 ) -> Plan
-    requires { ⌜ (firstFall (now rows) (now cols) ≡ none) × (length (now rows) ≤ 1024) × (length (now rows) ≤ length (now cols))
-        × (length (now rows) ≤ length (now codes)) ⌝ }
-    requires { ⌜ ((i : ℕ) → getD (now codes) i 0 < 1025) × (length (now rows) ≤ length (now floats))
-        × (length (now rows) ≤ length (now scratch)) ⌝ }
-    ensures plan { λ r. ⌜ ((kinds wraps nums ats lens pool : List ℕ) (regions : List CellCoordinate) (name : Span)
-        → Numbered (columns (now (rows .entry)) (now (cols .entry)) kinds wraps nums ats lens) (now (floats .entry))
-        → (isDuplicates (rule .kind) ≡ true → Coded pool (columns (now (rows .entry)) (now (cols .entry)) kinds wraps nums ats lens)
-        (now (codes .entry)))
-        → r ≡ plan (sheetFrom (cellsOf (columns (now (rows .entry)) (now (cols .entry)) kinds wraps nums ats lens)) regions pool name)
-        rule) ⌝ }
-    ensures founds { λ r. ⌜ ((kinds wraps nums ats lens pool regionRows regionCols : List ℕ) (test : Test)
-        → isDuplicates (rule .kind) ≡ true
-        → Coded pool (columns (now (rows .entry)) (now (cols .entry)) kinds wraps nums ats lens) (now (codes .entry))
-        → Followed (columns (now (rows .entry)) (now (cols .entry)) kinds wraps nums ats lens) regionRows regionCols (now (places .entry))
-        → length regionRows ≤ length (now (founds .entry)) → r ≡ Plan.Tested test
-        → Founded pool (columns (now (rows .entry)) (now (cols .entry)) kinds wraps nums ats lens) (rule .range) regionRows regionCols
-        (now (founds .exit))) ⌝ }
+    requires { ⌜ (band .from ≤ band .to) × (band .to ≤ 1024) × (band .to ≤ length (now cols)) × (band .to ≤ length (now codes)) ⌝ }
+    requires { ⌜ (band .to ≤ length (now floats)) × (band .to - band .from ≤ length (now scratch)) ⌝ }
+    requires { ⌜ ((i : ℕ) → getD (now codes) i 0 < 1025) × (regions .from ≤ regions .to) × (regions .to ≤ length (now founds)) ⌝ }
+    ensures plan { λ r. ⌜ ((rows kinds wraps nums ats lens pool : List ℕ) (sheetRegions : List CellCoordinate) (name : Span)
+        → Banded (rule .range) (columns rows (now (cols .entry)) kinds wraps nums ats lens) (band .from) (band .to)
+        → Numbered (columns rows (now (cols .entry)) kinds wraps nums ats lens) (now (floats .entry))
+        → (isDuplicates (rule .kind) ≡ true → Coded pool (columns rows (now (cols .entry)) kinds wraps nums ats lens) (now (codes .entry)))
+        → r ≡ plan (sheetFrom (cellsOf (columns rows (now (cols .entry)) kinds wraps nums ats lens)) sheetRegions pool name) rule) ⌝ }
+    ensures founds { λ r. ⌜ ((rows kinds wraps nums ats lens pool regionRows regionCols : List ℕ) (test : Test)
+        → Banded (rule .range) (columns rows (now (cols .entry)) kinds wraps nums ats lens) (band .from) (band .to)
+        → BandOf (rule .range) regionRows (regions .from) (regions .to) → isDuplicates (rule .kind) ≡ true
+        → Coded pool (columns rows (now (cols .entry)) kinds wraps nums ats lens) (now (codes .entry))
+        → Followed (columns rows (now (cols .entry)) kinds wraps nums ats lens) regionRows regionCols (now (places .entry))
+        → r ≡ Plan.Tested test
+        → Founded pool (columns rows (now (cols .entry)) kinds wraps nums ats lens) (rule .range) regionRows regionCols (now (founds .exit))) ⌝ }
 {
     let range = rule.range;
     let kind = rule.kind;
@@ -175,16 +193,17 @@ fn plan_rule(
         return Plan::Deferred;
     }
     if takes_values(kind) {
-        return plan_by_values(kind, range, rows, cols, floats, scratch);
+        return plan_by_values(kind, range, band, cols, floats, scratch);
     }
-    plan_without_values(kind, range, rows, cols, codes, places, founds)
+    plan_without_values(kind, range, band, regions, cols, codes, places, founds)
 }
 
 // The same where the charges ahead of the regions are accepted. Else no work is done.
 pub(crate) fn plan_within(
     charged: Charged,
     rule: Rule,
-    rows: &[u32],
+    band: Band,
+    regions: Band,
     cols: &[u16],
     floats: &[f64],
     codes: &[u16],
@@ -192,30 +211,36 @@ pub(crate) fn plan_within(
     founds: &mut [u16],
     scratch: &mut [f64],
 ) -> Plan
-    requires { ⌜ (firstFall (now rows) (now cols) ≡ none) × (length (now rows) ≤ 1024) × (length (now rows) ≤ length (now cols))
-        × (length (now rows) ≤ length (now codes)) ⌝ }
-    requires { ⌜ ((i : ℕ) → getD (now codes) i 0 < 1025) × (length (now rows) ≤ length (now floats))
-        × (length (now rows) ≤ length (now scratch)) ⌝ }
-    ensures plan { λ r. ⌜ ((kinds wraps nums ats lens pool : List ℕ) (regions : List CellCoordinate) (name : Span) (counter : Counter)
-        → charged ≡ Charged.Within counter
-        → Numbered (columns (now (rows .entry)) (now (cols .entry)) kinds wraps nums ats lens) (now (floats .entry))
-        → (isDuplicates (rule .kind) ≡ true → Coded pool (columns (now (rows .entry)) (now (cols .entry)) kinds wraps nums ats lens)
-        (now (codes .entry)))
-        → r ≡ plan (sheetFrom (cellsOf (columns (now (rows .entry)) (now (cols .entry)) kinds wraps nums ats lens)) regions pool name)
-        rule) ⌝ }
-    ensures founds { λ r. ⌜ ((kinds wraps nums ats lens pool regionRows regionCols : List ℕ) (test : Test)
-        → isDuplicates (rule .kind) ≡ true
-        → Coded pool (columns (now (rows .entry)) (now (cols .entry)) kinds wraps nums ats lens) (now (codes .entry))
-        → Followed (columns (now (rows .entry)) (now (cols .entry)) kinds wraps nums ats lens) regionRows regionCols (now (places .entry))
-        → length regionRows ≤ length (now (founds .entry)) → r ≡ Plan.Tested test
-        → Founded pool (columns (now (rows .entry)) (now (cols .entry)) kinds wraps nums ats lens) (rule .range) regionRows regionCols
-        (now (founds .exit))) ⌝ }
+    requires { ⌜ (band .from ≤ band .to) × (band .to ≤ 1024) × (band .to ≤ length (now cols)) × (band .to ≤ length (now codes)) ⌝ }
+    requires { ⌜ (band .to ≤ length (now floats)) × (band .to - band .from ≤ length (now scratch)) ⌝ }
+    requires { ⌜ ((i : ℕ) → getD (now codes) i 0 < 1025) × (regions .from ≤ regions .to) × (regions .to ≤ length (now founds)) ⌝ }
+    ensures plan { λ r. ⌜ ((rows kinds wraps nums ats lens pool : List ℕ) (sheetRegions : List CellCoordinate) (name : Span)
+        (counter : Counter) → charged ≡ Charged.Within counter
+        → Banded (rule .range) (columns rows (now (cols .entry)) kinds wraps nums ats lens) (band .from) (band .to)
+        → Numbered (columns rows (now (cols .entry)) kinds wraps nums ats lens) (now (floats .entry))
+        → (isDuplicates (rule .kind) ≡ true → Coded pool (columns rows (now (cols .entry)) kinds wraps nums ats lens) (now (codes .entry)))
+        → r ≡ plan (sheetFrom (cellsOf (columns rows (now (cols .entry)) kinds wraps nums ats lens)) sheetRegions pool name) rule) ⌝ }
+    ensures founds { λ r. ⌜ ((rows kinds wraps nums ats lens pool regionRows regionCols : List ℕ) (test : Test)
+        → Banded (rule .range) (columns rows (now (cols .entry)) kinds wraps nums ats lens) (band .from) (band .to)
+        → BandOf (rule .range) regionRows (regions .from) (regions .to) → isDuplicates (rule .kind) ≡ true
+        → Coded pool (columns rows (now (cols .entry)) kinds wraps nums ats lens) (now (codes .entry))
+        → Followed (columns rows (now (cols .entry)) kinds wraps nums ats lens) regionRows regionCols (now (places .entry))
+        → r ≡ Plan.Tested test
+        → Founded pool (columns rows (now (cols .entry)) kinds wraps nums ats lens) (rule .range) regionRows regionCols (now (founds .exit))) ⌝ }
     ensures refused { λ r. ⌜ ((test : Test) → r ≡ Plan.Tested test → (counter : Counter) × (charged ≡ Charged.Within counter)) ⌝ }
 {
     match charged {
-        Charged::Within(_) => {
-            plan_rule(rule, rows, cols, floats, codes, places, founds, scratch)
-        }
+        Charged::Within(_) => plan_rule(
+            rule,
+            band,
+            regions,
+            cols,
+            floats,
+            codes,
+            places,
+            founds,
+            scratch,
+        ),
         _ => Plan::Deferred,
     }
 }

@@ -1,6 +1,8 @@
 // The rules of a job in their order: each is decided, then its marks, stops and bars are written out. The cells and the regions rise.
+use crate::Band;
 use crate::Decided;
 use crate::ahead::charge_after;
+use crate::bands::band_of;
 use crate::marks::draw_bars;
 use crate::marks::put_marks;
 use crate::marks::stop_regions;
@@ -12,6 +14,7 @@ use charging::Charged;
 use charging::Counter;
 use hits::Found;
 use hits::find_hits;
+use hits::live;
 use model::CfRule;
 use model::Plan;
 use model::Rgb;
@@ -35,11 +38,13 @@ ghost use Rattle.model.specs.Ratio.{zeroF};
 ghost use Rattle.order.specs.Order.{orderOf, orderedRules};
 ghost use Rattle.cells.specs.Columns.{columns};
 ghost use Rattle.plans.specs.Plans.{isBarTest};
-ghost use Rattle.hits.specs.Hits.{known, hitsFrom, fitsHits};
-ghost use Rattle.turns.specs.Step.{judgedAs, isDuplicates, stepFrom, stepOf};
+ghost use Rattle.hits.specs.Hits.{known, hitsFrom, fitsHits, liveFrom};
+ghost use Rattle.turns.specs.Step.{judgedAs, judgedOf, outcomesFrom, isDuplicates, stepFrom, stepOf};
 ghost use Rattle.turns.specs.Emit.{markColumns, barColumns, Paints};
+ghost use Rattle.turns.specs.Knowing.{countsKeys};
+ghost use Rattle.turns.specs.Bands.{BandOf};
 ghost use Rattle.turns.specs.Turns.{stateOf, ranNone, indexed, turn, left, leftBy, sheetIn, sayIn, runIn};
-ghost use Rattle.call.specs.Tables.{Coded, Tabled};
+ghost use Rattle.call.specs.Tables.{Numbered, Valued, Coded, Founded, Tabled};
 ghost use Rattle.call.specs.Decides.{Decides};
 
 // ---- a rule up to its marks
@@ -76,8 +81,9 @@ fn no_test() -> Test {
 
 // A rule without outcomes, which charges no region. It counts as deferred where it is given up and no charge is refused.
 fn untested(charged: Charged, unresolved: bool) -> Decided
-    ensures { λ r. ⌜ ((limit : ℕ) (imported : Bool) (values : List Float) (hits : List ℕ)
+    ensures decided { λ r. ⌜ ((limit : ℕ) (imported : Bool) (values : List Float) (hits : List ℕ)
         → Decides (stepFrom limit false (judgedAs [] 0 unresolved) charged) imported values hits r) ⌝ }
+    ensures few { λ r. ⌜ (r .count ≡ 0) × (r .deferred ≤ 1) × (r .simplified ≡ 0) ⌝ }
 {
     let deferred = match charged {
         Charged::Within(_) => one_if(unresolved),
@@ -93,15 +99,16 @@ fn untested(charged: Charged, unresolved: bool) -> Decided
 }
 
 // The regions that were asked are charged at once. Their hits count where that is accepted.
-fn charge_found(charged: Charged, limit: u64, test: Test, found: Found) -> Decided
-    ensures { λ r. ⌜ ((os : List Outcome) (imported : Bool) (values : List Float) (hits : List ℕ) → found .count ≡ length (hitsFrom 0 os)
-        → take (found .count) hits ≡ hitsFrom 0 os → Paints test imported values os
-        → Decides (stepFrom limit (isBarTest test) (judgedAs os (found .asked) (found .unresolved)) charged) imported values hits r) ⌝ }
+fn charge_found(charged: Charged, limit: u64, test: Test, asked: u64, found: Found) -> Decided
+    ensures decided { λ r. ⌜ ((os : List Outcome) (imported : Bool) (values : List Float) (hits : List ℕ)
+        → found .count ≡ length (hitsFrom 0 os) → take (found .count) hits ≡ hitsFrom 0 os → Paints test imported values os
+        → Decides (stepFrom limit (isBarTest test) (judgedAs os asked (found .unresolved)) charged) imported values hits r) ⌝ }
+    ensures few { λ r. ⌜ (r .count ≤ found .count) × (r .deferred ≤ 1) × (r .simplified ≤ 1) ⌝ }
 {
     let Charged::Within(counter) = charged else {
         return untested(charged, false);
     };
-    let all = counter.charge_times(found.asked, limit);
+    let all = counter.charge_times(asked, limit);
     let Charged::Within(_) = all else {
         return untested(all, false);
     };
@@ -114,13 +121,113 @@ fn charge_found(charged: Charged, limit: u64, test: Test, found: Found) -> Decid
     }
 }
 
+// How many regions are charged: those that are not stopped, up to the first that leaves the test unresolved.
+fn asked_of(found: Found, alive: u64, flags: &[u8]) -> u64
+    requires { ⌜ (found .unresolved ≡ true → found .at < length (now flags)) ⌝ }
+    ensures { λ r. ⌜ r ≡ cond (found .unresolved) (liveFrom (now (flags .entry)) 0 (found .at + 1)) alive ⌝ }
+{
+    if found.unresolved {
+        return live(&flags[..found.at + 1]);
+    }
+    alive
+}
+
+fn nothing_found() -> Found
+    ensures { λ r. ⌜ r ≡ record { fits = true; unresolved = false; at = 0; count = 0 } ⌝ }
+{
+    Found {
+        fits: true,
+        unresolved: false,
+        at: 0,
+        count: 0,
+    }
+}
+
+// A rule that has a test, from what is known of the regions in its rows to its hits. Outside of these rows no region is in range.
+fn test_regions(
+    rule: Rule,
+    test: Test,
+    charged: Charged,
+    limit: u64,
+    alive: u64,
+    regions: Band,
+    flags: &[u8],
+    floats: &[f64],
+    values: &[f64],
+    rows: &[u32],
+    cols: &[u16],
+    region_rows: &[u32],
+    region_cols: &[u16],
+    pool: &[u8],
+    sheet: Span,
+    firsts: &mut [f64],
+    seconds: &mut [f64],
+    founds: &[u16],
+    hits: &mut [u16],
+) -> Decided
+    requires { ⌜ (firstFall (now rows) (now cols) ≡ none) × (length (now rows) ≤ 1024) × (length (now rows) ≡ length (now floats))
+        × (length (now rows) ≤ length (now cols)) ⌝ }
+    requires { ⌜ BandOf (rule .range) (now «region_rows») (regions .from) (regions .to)
+        × (alive ≡ liveFrom (now flags) 0 (length (now «region_rows»))) ⌝ }
+    requires { ⌜ fitsHits 0 (length (now «region_rows»)) (known (now values) (now firsts) (now seconds) (now founds)) (now «region_cols»)
+        (now flags) (length (now hits)) ≡ true ⌝ }
+    ensures decided { λ r. ⌜ ((kinds wraps nums ats lens : List ℕ)
+        → Numbered (columns (now (rows .entry)) (now (cols .entry)) kinds wraps nums ats lens) (now (floats .entry))
+        → Valued (columns (now (rows .entry)) (now (cols .entry)) kinds wraps nums ats lens) (now («region_rows» .entry))
+        (now («region_cols» .entry)) (now (values .entry))
+        → (countsKeys test ≡ true → Founded (now (pool .entry)) (columns (now (rows .entry)) (now (cols .entry)) kinds wraps nums ats lens)
+        (rule .range) (now («region_rows» .entry)) (now («region_cols» .entry)) (now (founds .entry)))
+        → Decides (stepFrom limit (isBarTest test) (judgedOf (outcomesFrom (sheetIn (columns (now (rows .entry)) (now (cols .entry)) kinds
+        wraps nums ats lens) (now («region_rows» .entry)) (now («region_cols» .entry)) (now (pool .entry)) sheet) rule test
+        (now («region_rows» .entry)) (now («region_cols» .entry)) (now (flags .entry)) 0 (length (now («region_rows» .entry))))) charged)
+        (rule .imported) (now (values .entry)) (now (hits .exit)) r) ⌝ }
+    ensures few { λ r. ⌜ (r .count ≤ length (now («region_rows» .entry))) × (r .deferred ≤ 1) × (r .simplified ≤ 1) ⌝ }
+    ensures hits { λ r. ⌜ ((k : ℕ) → k < r .count → getD (now (hits .exit)) k 0 < length (now («region_rows» .entry))) ⌝ }
+{
+    // Where all regions are stopped none is asked.
+    if alive == 0 {
+        return charge_found(charged, limit, test, 0, nothing_found());
+    }
+    let range = rule.range;
+    find_operands(
+        test,
+        range,
+        regions,
+        rows,
+        cols,
+        floats,
+        values,
+        region_rows,
+        region_cols,
+        pool,
+        sheet,
+        firsts,
+        seconds,
+    );
+    let found = find_hits(
+        test,
+        range,
+        regions.from,
+        regions.to,
+        flags,
+        region_cols,
+        values,
+        firsts,
+        seconds,
+        founds,
+        &mut hits[..regions.to - regions.from + 1],
+    );
+    charge_found(charged, limit, test, asked_of(found, alive, flags), found)
+}
+
 // Port of one turn of the loop over the rules in resolve_conditional_paints (conditional.rs), up to its marks: what it charges ahead of
 // the regions, what it comes to, what is known of the regions for it, and which of them it paints. `charged` is what the charges so far
-// came to. Once a charge is refused no more work is done.
+// came to, `alive` how many regions are not stopped. Once a charge is refused no more work is done.
 fn decide(
     rule: Rule,
     charged: Charged,
     limit: u64,
+    alive: u64,
     flags: &[u8],
     places: &[u16],
     floats: &[f64],
@@ -142,7 +249,9 @@ fn decide(
         × (length (now rows) ≤ length (now codes)) ⌝ }
     requires { ⌜ ((i : ℕ) → getD (now codes) i 0 < 1025) × (length (now rows) ≡ length (now floats))
         × (length (now rows) ≤ length (now scratch)) ⌝ }
-    requires { ⌜ fitsHits (length (now «region_rows»)) (known (now values) (now firsts) (now seconds) (now founds)) (now «region_cols»)
+    requires { ⌜ (firstFall (now «region_rows») (now «region_cols») ≡ none)
+        × (alive ≡ liveFrom (now flags) 0 (length (now «region_rows»))) ⌝ }
+    requires { ⌜ fitsHits 0 (length (now «region_rows»)) (known (now values) (now firsts) (now seconds) (now founds)) (now «region_cols»)
         (now flags) (length (now hits)) ≡ true ⌝ }
     ensures decided { λ r. ⌜ ((kinds wraps nums ats lens : List ℕ)
         → Tabled (columns (now (rows .entry)) (now (cols .entry)) kinds wraps nums ats lens) (now (pool .entry)) (rule .kind)
@@ -155,11 +264,14 @@ fn decide(
     ensures hits { λ r. ⌜ ((k : ℕ) → k < r .count → getD (now (hits .exit)) k 0 < length (now («region_rows» .entry))) ⌝ }
 {
     let range = rule.range;
-    let spent = charge_after(rule, charged, limit, rows, cols);
+    let band = band_of(range, rows);
+    let spent = charge_after(rule, charged, limit, band, cols);
+    let regions = band_of(range, region_rows);
     let plan = plan_within(
         spent,
         rule,
-        rows,
+        band,
+        regions,
         cols,
         floats,
         codes,
@@ -170,34 +282,27 @@ fn decide(
     match plan {
         Plan::Deferred => untested(spent, true),
         Plan::Skipped => untested(spent, false),
-        Plan::Tested(test) => {
-            find_operands(
-                test,
-                range,
-                rows,
-                cols,
-                floats,
-                region_rows,
-                region_cols,
-                pool,
-                sheet,
-                firsts,
-                seconds,
-            );
-            let found = find_hits(
-                test,
-                range,
-                flags,
-                region_rows,
-                region_cols,
-                values,
-                firsts,
-                seconds,
-                founds,
-                hits,
-            );
-            charge_found(spent, limit, test, found)
-        }
+        Plan::Tested(test) => test_regions(
+            rule,
+            test,
+            spent,
+            limit,
+            alive,
+            regions,
+            flags,
+            floats,
+            values,
+            rows,
+            cols,
+            region_rows,
+            region_cols,
+            pool,
+            sheet,
+            firsts,
+            seconds,
+            founds,
+            hits,
+        ),
     }
 }
 
@@ -209,6 +314,7 @@ fn turn(
     index: u8,
     ran: Ran,
     limit: u64,
+    alive: u64,
     places: &[u16],
     floats: &[f64],
     values: &[f64],
@@ -238,7 +344,9 @@ fn turn(
         × (length (now rows) ≤ length (now codes)) ⌝ }
     requires { ⌜ ((i : ℕ) → getD (now codes) i 0 < 1025) × (length (now rows) ≡ length (now floats))
         × (length (now rows) ≤ length (now scratch)) ⌝ }
-    requires { ⌜ fitsHits (length (now «region_rows»)) (known (now values) (now firsts) (now seconds) (now founds)) (now «region_cols»)
+    requires { ⌜ (firstFall (now «region_rows») (now «region_cols») ≡ none)
+        × (alive ≡ liveFrom (now flags) 0 (length (now «region_rows»))) ⌝ }
+    requires { ⌜ fitsHits 0 (length (now «region_rows»)) (known (now values) (now firsts) (now seconds) (now founds)) (now «region_cols»)
         (now flags) (length (now hits)) ≡ true ⌝ }
     ensures turn { λ r. ⌜ ((kinds wraps nums ats lens : List ℕ)
         → Tabled (columns (now (rows .entry)) (now (cols .entry)) kinds wraps nums ats lens) (now (pool .entry)) (rule .kind)
@@ -250,6 +358,7 @@ fn turn(
         (now («region_cols» .entry)) rule (ran .charged) (now (flags .entry))) (stateOf ran (now (flags .entry)) (markColumns
         (now (regions .entry)) (now (ruleids .entry)) (now (markkinds .entry)) (now (colours .entry)) (now (ppms .entry)))
         (barColumns (now (barrules .entry)) (now (barppms .entry))))) ⌝ }
+    ensures flags { λ _. ⌜ (rule .stop ≡ false → now (flags .exit) ≡ now (flags .entry)) ⌝ }
     ensures few { λ r. ⌜ (r .marks ≤ ran .marks + 1024) × (r .deferred ≤ ran .deferred + 1) × (r .simplified ≤ ran .simplified + 1) ⌝ }
 {
     let before = ran.charged;
@@ -257,6 +366,7 @@ fn turn(
         rule,
         before,
         limit,
+        alive,
         flags,
         places,
         floats,
@@ -396,8 +506,8 @@ fn run_rules(
         × (length (now rows) ≤ length (now codes)) ⌝ }
     requires { ⌜ ((i : ℕ) → getD (now codes) i 0 < 1025) × (length (now rows) ≡ length (now floats))
         × (length (now rows) ≤ length (now scratch)) ⌝ }
-    requires { ⌜ (length (now «region_rows») ≤ 1024) × (length (now «region_rows») ≤ length (now «region_cols»))
-        × (length (now «region_rows») ≤ length (now values)) ⌝ }
+    requires { ⌜ (firstFall (now «region_rows») (now «region_cols») ≡ none) × (length (now «region_rows») ≤ 1024)
+        × (length (now «region_rows») ≤ length (now «region_cols»)) × (length (now «region_rows») ≤ length (now values)) ⌝ }
     ensures run { λ r. ⌜ ((kinds wraps nums ats lens : List ℕ)
         → ((i : ℕ) (d : Rule) → i < count → Tabled (columns (now (rows .entry)) (now (cols .entry)) kinds wraps nums ats lens)
         (now (pool .entry)) (getD (rules .records) i d .kind) (now («region_rows» .entry)) (now («region_cols» .entry))
@@ -414,6 +524,8 @@ fn run_rules(
     let mut founds = [0u16; 1024];
     let mut hits = [0u16; 1025];
     let mut flags = [0u8; 1024];
+    let n = region_rows.len();
+    let mut alive = n as u64;
     let mut ran = none_yet(start);
     let mut k = 0;
     while k < count {
@@ -425,6 +537,7 @@ fn run_rules(
             index,
             ran,
             limit,
+            alive,
             places,
             floats,
             values,
@@ -449,6 +562,9 @@ fn run_rules(
             barppms,
             scratch,
         );
+        if rule.stop {
+            alive = live(&flags[..n]);
+        }
         k += 1;
     }
     ran
@@ -498,12 +614,13 @@ pub(crate) fn run(
     let order = order::order_rules(rules);
     let count = order::rule_count(rules);
     let n = rows.len();
+    let m = region_rows.len();
     let mut places = [0u16; 1024];
-    walk_cells(rows, cols, region_rows, region_cols, &mut places);
+    walk_cells(rows, cols, region_rows, region_cols, &mut places[..m]);
     let mut floats = [0.0; 1024];
     number_cells(kinds, wraps, nums, ats, lens, &mut floats[..n]);
     let mut values = [0.0; 1024];
-    number_regions(&places, &floats[..n], &mut values);
+    number_regions(&places[..m], &floats[..n], &mut values[..m]);
     let codes = codes_for(rules, count, rows, kinds, wraps, nums, ats, lens, pool);
     let ran = run_rules(
         rules,

@@ -1,17 +1,22 @@
 -- The byte that a loop stores for a region, as the definitions say it. Assumes nothing.
-use Prim.Native.Nat.{ℕ}
+use Prim.Native.Nat.{ℕ, _≤_}
 use mathlib.Core.Path.{_≡_, refl, ap, _∙_}
 use mathlib.Core.Bool.{Bool, true, false, cond, not, _&&_, _||_, or-false, and-assoc}
 use mathlib.Core.Logic.{_⊎_, inl, inr}
+use native.Mathlib.Omega.{arith}
 use lib.Dec.{ltb, eqb}
 use lib.Ieee.{Float, lt, le, eq}
 use mir.Val.{boolByte}
 use Rattle.hits.specs.declared.Wanted.{Wanted}
 use Rattle.hits.specs.Said.{interval, meets, sayInterval, compared, sayCompared, sayBetween, sayCounted}
 
-byte-is : (t : Bool) → boolByte t ≡ cond t 1 0
+pub byte-is : (t : Bool) → boolByte t ≡ cond t 1 0
 byte-is true = refl
 byte-is false = refl
+
+pub byte-few : (t : Bool) {byte : ℕ} → byte ≡ cond t 1 0 → byte ≤ 1
+byte-few true e = omega arith
+byte-few false e = omega arith
 
 -- one of two tests without a branch
 one-of : (which s t : Bool) → (which && s) || (not which && t) ≡ cond which s t

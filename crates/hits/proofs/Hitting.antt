@@ -1,153 +1,142 @@
--- What a test says of the regions, by the bytes that say it: which regions are hit, whether one leaves the test unresolved, and how many
--- are asked up to the first that does. Assumes nothing.
+-- What the bytes of outcomes say of them: which regions are hit, whether one leaves the test unresolved, and which is the first that does.
+-- And the outcomes of a test have the bytes that it says. Assumes nothing.
 use Prim.Native.Nat.{ℕ, zero, suc, _+_, _≤_, _<_}
-use mathlib.Core.Path.{_≡_, refl, sym, _∙_}
-use mathlib.Core.Bool.{Bool, true, false, cond, not, _&&_, _||_, and-false}
-use mathlib.Core.List.{List, _∷_}
-use native.Mathlib.Nat.{add-zero, zero-add, not-suc-le-zero}
+use mathlib.Core.Path.{_≡_, refl, sym, ap, _∙_}
+use mathlib.Core.Bool.{Bool, true, false, cond, not, _&&_, _||_, and-true, and-false}
+use mathlib.Core.List.{List, [], _∷_}
+use native.Mathlib.Nat.{add-zero, not-suc-le-zero}
 use native.Mathlib.Omega.{arith}
 use lib.Dec.{eqb}
-use lib.ListN.{getD}
+use lib.ListN.{length, getD}
 use Rattle.model.specs.declared.Outcome.{Outcome}
 use Rattle.model.specs.declared.Range.{Range}
 use Rattle.model.specs.declared.Test.{Test}
-use Rattle.model.specs.Sheet.{inRange}
-use Rattle.model.specs.Run.{asked, isUnresolved}
-use Rattle.cells.specs.Columns.{coordinateAt}
+use Rattle.model.specs.Run.{isUnresolved}
 use Rattle.hits.specs.Said.{byteOf}
-use Rattle.hits.specs.Hits.{Known, Says, verdictBy, outcomeBy, outcomesBy, hitsFrom, liveFrom}
-use Rattle.hits.proofs.Chosen.{chosen, unstopped}
-use Rattle.hits.proofs.Judged.{Judged, verdict-judged}
-
--- ---- tests
+use Rattle.hits.specs.Hits.{Known, verdictBy, columnIn, outcomeBy, outcomesBy, hitsFrom, unresolvedFrom}
+use Rattle.hits.specs.Chosen.{stands, chosenFrom, Tells}
+use Rattle.hits.proofs.Chosen.{ahead}
 
 pub neither : (a b : Bool) → a || b ≡ false → (a ≡ false) × (b ≡ false)
 neither true b e = (cc, cc)
 neither false b e = (refl, e)
 
-middle : (a b c : Bool) → a && b && c ≡ true → b ≡ true
-middle true true c e = refl
-middle true false c e = e
-middle false b c e = cc
-
 -- ---- one region
 
--- the outcome of a region with its verdict, by whether it is stopped and in range
-abbrev outcomeOf : Bool → Bool → Outcome → Outcome
-outcomeOf live within v = cond (not live) Outcome.Stopped (cond within v Outcome.Passed)
-
 module _ (later : List Outcome) where
-  hits-first : (i : ℕ) (live within : Bool) (v : Outcome) → hitsFrom i (outcomeOf live within v ∷ later)
-      ≡ cond (eqb (byteOf v) 1 && live && within) (i ∷ hitsFrom (suc i) later) (hitsFrom (suc i) later)
+  hits-first : (i : ℕ) (o : Outcome) → hitsFrom i (o ∷ later) ≡ ahead (eqb (byteOf o) 1) i (hitsFrom (suc i) later)
   unfolding hitsFrom byteOf
-  hits-first i false within v = rw and-false
-  hits-first i true false v = rw and-false
-  hits-first i true true Outcome.Stopped = refl
-  hits-first i true true Outcome.Passed = refl
-  hits-first i true true Outcome.Unresolved = refl
-  hits-first i true true (Outcome.Painted p) = refl
+  hits-first i Outcome.Stopped = refl
+  hits-first i Outcome.Passed = refl
+  hits-first i Outcome.Unresolved = refl
+  hits-first i (Outcome.Painted p) = refl
 
-  unresolved-first : (live within : Bool) (v : Outcome)
-      → isUnresolved (outcomeOf live within v ∷ later) ≡ (eqb (byteOf v) 2 && live && within) || isUnresolved later
+  unresolved-first : (o : Outcome) → isUnresolved (o ∷ later) ≡ eqb (byteOf o) 2 || isUnresolved later
   unfolding isUnresolved byteOf
-  unresolved-first false within v = rw and-false
-  unresolved-first true false v = rw and-false
-  unresolved-first true true Outcome.Stopped = refl
-  unresolved-first true true Outcome.Passed = refl
-  unresolved-first true true Outcome.Unresolved = refl
-  unresolved-first true true (Outcome.Painted p) = refl
+  unresolved-first Outcome.Stopped = refl
+  unresolved-first Outcome.Passed = refl
+  unresolved-first Outcome.Unresolved = refl
+  unresolved-first (Outcome.Painted p) = refl
 
-  -- every region that is not stopped is asked, and none behind an unresolved one
-  asked-first : (live within : Bool) (v : Outcome) → Judged v → asked (outcomeOf live within v ∷ later)
-      ≡ cond live (suc (cond (eqb (byteOf v) 2 && live && within) 0 (asked later))) (asked later)
-  unfolding asked byteOf
-  asked-first false within v h = refl
-  asked-first true false v h = rw and-false
-  asked-first true true Outcome.Stopped h = absurd h
-  asked-first true true Outcome.Passed h = refl
-  asked-first true true Outcome.Unresolved h = refl
-  asked-first true true (Outcome.Painted p) h = refl
+  place-first : (i : ℕ) (o : Outcome) → unresolvedFrom i (o ∷ later) ≡ cond (eqb (byteOf o) 2) i (unresolvedFrom (suc i) later)
+  unfolding unresolvedFrom byteOf
+  place-first i Outcome.Stopped = refl
+  place-first i Outcome.Passed = refl
+  place-first i Outcome.Unresolved = refl
+  place-first i (Outcome.Painted p) = refl
 
 -- ---- the regions
 
--- whether a region has this byte, is not stopped, and is in range
-abbrev pub stands : ℕ → Range → List ℕ → List ℕ → List ℕ → List ℕ → ℕ → Bool
-stands byte range flags rows cols said i =
-    eqb (getD said i 0) byte && unstopped flags i && inRange range (coordinateAt rows cols i)
+abbrev byteAt : List Outcome → ℕ → ℕ
+byteAt os i = byteOf (getD os i Outcome.Passed)
 
-module _ (k : Known) (range : Range) (t : Test) (imported : Bool) (rows cols flags : List ℕ) where
-  abbrev outcomes : ℕ → ℕ → List Outcome
-  outcomes i n = outcomesBy k range t imported rows cols flags i n
+hits-chosen : (i : ℕ) (os : List Outcome) (bytes : List ℕ) → length os ≡ length bytes
+    → ((j : ℕ) → j < length bytes → eqb (byteAt os j) 1 ≡ eqb (getD bytes j 0) 1) → hitsFrom i os ≡ chosenFrom i bytes
+unfolding hitsFrom chosenFrom
+hits-chosen i [] [] l same = refl
+hits-chosen i [] (byte ∷ bytes) l same = absurd (omega arith)
+hits-chosen i (o ∷ os) [] l same = absurd (omega arith)
+hits-chosen i (o ∷ os) (byte ∷ bytes) l same =
+    hits-first os i o
+    ∙ rw (same 0 (omega arith), hits-chosen (suc i) os bytes (omega arith) (λ j h. same (suc j) (omega arith)))
 
-  abbrev verdict : ℕ → Outcome
-  verdict i = verdictBy k t imported i
+-- where no byte says so, none is unresolved
+none-unresolved : (i : ℕ) (os : List Outcome) → ((j : ℕ) → j < length os → eqb (byteAt os j) 2 ≡ false)
+    → (isUnresolved os ≡ false) × (unresolvedFrom i os ≡ i + length os)
+unfolding isUnresolved unresolvedFrom
+none-unresolved i [] none = (refl, sym (add-zero i))
+none-unresolved i (o ∷ os) none =
+    let rest = none-unresolved (suc i) os (λ j h. none (suc j) (omega arith)) in (
+      unresolved-first os o ∙ rw (none 0 (omega arith)) (rest .0),
+      place-first os i o ∙ rw (none 0 (omega arith)) (rest .1 ∙ omega arith),
+    )
 
-  abbrev live : ℕ → Bool
-  live i = unstopped flags i
+-- the first that is unresolved is r regions behind i
+first-unresolved : (r i : ℕ) (os : List Outcome) → r < length os → ((j : ℕ) → j < r → eqb (byteAt os j) 2 ≡ false)
+    → eqb (byteAt os r) 2 ≡ true → (isUnresolved os ≡ true) × (unresolvedFrom i os ≡ i + r)
+first-unresolved r i [] few none here = absurd (not-suc-le-zero few)
+first-unresolved zero i (o ∷ os) few none here =
+    (unresolved-first os o ∙ rw here, place-first os i o ∙ rw (here, add-zero i))
+first-unresolved (suc r) i (o ∷ os) few none here =
+    let rest = first-unresolved r (suc i) os (omega arith) (λ j h. none (suc j) (omega arith)) here in (
+      unresolved-first os o ∙ rw (none 0 (omega arith)) (rest .0),
+      place-first os i o ∙ rw (none 0 (omega arith)) (rest .1 ∙ omega arith),
+    )
 
-  abbrev within : ℕ → Bool
-  within i = inRange range (coordinateAt rows cols i)
+-- ---- outcomes that the bytes tell
 
-  -- where none is unresolved, all that are not stopped are asked
-  pub asked-live : (i n : ℕ) → isUnresolved (outcomes i n) ≡ false → asked (outcomes i n) ≡ liveFrom flags i n
-  unfolding outcomesBy outcomeBy asked liveFrom
-  asked-live i zero e = refl
-  asked-live i (suc n) e =
-      let later = outcomes (suc i) n in
-      let here = eqb (byteOf (verdict i)) 2 && live i && within i in
-      let told = neither here (isUnresolved later) (sym (unresolved-first later (live i) (within i) (verdict i)) ∙ e) in
-      asked-first later (live i) (within i) (verdict i) (verdict-judged k t imported i)
-      ∙ rw (told .0, asked-live (suc i) n (told .1))
+counts : (byte said : ℕ) (live within : Bool) → eqb 0 byte ≡ false
+    → eqb (cond (live && within) said 0) byte ≡ eqb said byte && live && within
+counts byte said true true e = sym (and-true _ ∙ and-true _)
+counts byte said true false e = e ∙ sym (and-false (eqb said byte && true))
+counts byte said false within e = e ∙ sym (ap (λ t. t && within) (and-false (eqb said byte)))
 
-  module _ (said : List ℕ) (all : ℕ) (says : Says said k t imported all) where
-    abbrev standing : ℕ → ℕ → Bool
-    standing byte i = stands byte range flags rows cols said i
+one : (t : Bool) → eqb (cond t 1 0) 1 ≡ t
+one true = refl
+one false = refl
 
-    hits-from : (i n : ℕ) → i + n ≤ all → hitsFrom i (outcomes i n) ≡ chosen (standing 1) i n
-    unfolding outcomesBy outcomeBy chosen hitsFrom
-    hits-from i zero h = refl
-    hits-from i (suc n) h =
-        hits-first (outcomes (suc i) n) i (live i) (within i) (verdict i)
-        ∙ rw (← says i (omega arith), hits-from (suc i) n (omega arith))
+module _ {range : Range} {flags cols said : List ℕ} {os : List Outcome} (tells : Tells range flags cols said os) (i : ℕ) where
+  -- a byte besides 0
+  told : (byte : ℕ) → eqb 0 byte ≡ false → (j : ℕ) → j < length said → eqb (byteAt os j) byte ≡ stands byte range flags cols said j
+  told byte e j h = ap (λ b. eqb b byte) (tells .each j h) ∙ counts byte _ _ _ e
 
-    -- where no byte of them says so, none is unresolved
-    none-from : (i n : ℕ) → i + n ≤ all → ((j : ℕ) → j < i + n → standing 2 j ≡ false) → isUnresolved (outcomes i n) ≡ false
-    unfolding outcomesBy outcomeBy isUnresolved
-    none-from i zero h none = refl
-    none-from i (suc n) h none =
-        unresolved-first (outcomes (suc i) n) (live i) (within i) (verdict i)
-        ∙ rw (← says i (omega arith), none i (omega arith)) (none-from (suc i) n (omega arith) (λ j g. none j (omega arith)))
+  pub hits-told : (bytes : List ℕ) → length bytes ≡ length said
+      → ((j : ℕ) → j < length said → getD bytes j 0 ≡ cond (stands 1 range flags cols said j) 1 0) → hitsFrom i os ≡ chosenFrom i bytes
+  hits-told bytes l each =
+      hits-chosen i os bytes (tells .long ∙ sym l)
+      (λ j h. told 1 refl j (omega (arith, l)) ∙ sym (ap (λ b. eqb b 1) (each j (omega (arith, l))) ∙ one _))
 
-    -- the first that is unresolved is d regions behind i
-    first-from : (d i n : ℕ) → i + n ≤ all → d < n → ((j : ℕ) → j < i + d → standing 2 j ≡ false) → standing 2 (i + d) ≡ true
-        → (isUnresolved (outcomes i n) ≡ true) × (asked (outcomes i n) ≡ liveFrom flags i (suc d))
-    unfolding outcomesBy outcomeBy isUnresolved liveFrom
-    first-from d i zero h few none here = absurd (not-suc-le-zero few)
-    first-from zero i (suc n) h few none here =
-        let later = outcomes (suc i) n in
-        let stood : standing 2 i ≡ true = rw add-zero at here in
-        let alive = middle (eqb (getD said i 0) 2) (live i) (within i) stood in (
-          unresolved-first later (live i) (within i) (verdict i) ∙ rw (← says i (omega arith), stood),
-          asked-first later (live i) (within i) (verdict i) (verdict-judged k t imported i)
-              ∙ rw (← says i (omega arith), stood, alive),
-        )
-    first-from (suc d) i (suc n) h few none here =
-        let later = outcomes (suc i) n in
-        let e : i + suc d ≡ suc i + d = omega arith in
-        let rest = first-from d (suc i) n (omega arith) (omega arith) (λ j g. none j (omega arith)) (rw e at here) in (
-          unresolved-first later (live i) (within i) (verdict i) ∙ rw (← says i (omega arith), none i (omega arith)) (rest .0),
-          asked-first later (live i) (within i) (verdict i) (verdict-judged k t imported i)
-              ∙ rw (← says i (omega arith), none i (omega arith), rest .1),
-        )
+  pub none-told : (r : ℕ) → length said ≤ r → ((j : ℕ) → j < r → stands 2 range flags cols said j ≡ false)
+      → (isUnresolved os ≡ false) × (unresolvedFrom i os ≡ i + length said)
+  none-told r all none =
+      rw (tells .long) at (none-unresolved i os (λ j h. told 2 refl j (omega (arith, tells .long)) ∙ none j (omega (arith, tells .long))))
 
-    -- all regions
+  pub first-told : (r : ℕ) → r < length said → ((j : ℕ) → j < r → stands 2 range flags cols said j ≡ false)
+      → stands 2 range flags cols said r ≡ true → (isUnresolved os ≡ true) × (unresolvedFrom i os ≡ i + r)
+  first-told r few none here =
+      first-unresolved r i os (omega (arith, tells .long)) (λ j h. told 2 refl j (omega arith) ∙ none j h) (told 2 refl r few ∙ here)
 
-    pub hits-chosen : hitsFrom 0 (outcomes 0 all) ≡ chosen (standing 1) 0 all
-    hits-chosen = hits-from 0 all (omega arith)
+-- ---- the outcomes of a test
 
-    pub none-unresolved : ((j : ℕ) → j < all → standing 2 j ≡ false) → isUnresolved (outcomes 0 all) ≡ false
-    none-unresolved none = none-from 0 all (omega arith) (λ j g. none j (omega arith))
+module _ (k : Known) (range : Range) (t : Test) (imported : Bool) (cols flags : List ℕ) where
+  outcome-byte : (live within : Bool) (v : Outcome)
+      → byteOf (cond (not live) Outcome.Stopped (cond within v Outcome.Passed)) ≡ cond (live && within) (byteOf v) 0
+  unfolding byteOf
+  outcome-byte true true v = refl
+  outcome-byte true false v = refl
+  outcome-byte false within v = refl
 
-    pub first-unresolved : (r : ℕ) → r < all → ((j : ℕ) → j < r → standing 2 j ≡ false) → standing 2 r ≡ true
-        → (isUnresolved (outcomes 0 all) ≡ true) × (asked (outcomes 0 all) ≡ liveFrom flags 0 (suc r))
-    first-unresolved r few none here = first-from r 0 all (omega arith) few (λ j g. none j (omega arith)) (rw zero-add here)
+  pub outcomes-long : (i n : ℕ) → length (outcomesBy k range t imported cols flags i n) ≡ n
+  unfolding outcomesBy
+  outcomes-long i zero = refl
+  outcomes-long i (suc n) = ap suc (outcomes-long (suc i) n)
+
+  pub outcomes-byte : (i n j : ℕ) → j < n → byteAt (outcomesBy k range t imported cols flags i n) j
+      ≡ cond (eqb (getD flags (i + j) 0) 0 && columnIn range (getD cols (i + j) 0)) (byteOf (verdictBy k t imported (i + j))) 0
+  unfolding outcomesBy outcomeBy
+  outcomes-byte i zero j h = absurd (not-suc-le-zero h)
+  outcomes-byte i (suc n) zero h =
+      rw (add-zero i) (outcome-byte (eqb (getD flags i 0) 0) (columnIn range (getD cols i 0)) (verdictBy k t imported i))
+  outcomes-byte i (suc n) (suc j) h =
+      let e : i + suc j ≡ suc i + j = omega arith in
+      rw e (outcomes-byte (suc i) n j (omega arith))

@@ -6,6 +6,6 @@ pub mod Bytes
 pub mod Verdicts
 pub mod Chosen
 pub mod Keeping
-pub mod Judged
 pub mod Hitting
 pub mod Finding
+pub mod Unstopped

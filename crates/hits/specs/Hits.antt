@@ -1,6 +1,7 @@
 -- The regions that a test paints, by what is known of each region ahead of it: the number of its cell, the numbers that the operands read
--- as from it, and how many cells in range have its key, each a column. Assumes nothing.
-use Prim.Native.Nat.{ℕ, zero, suc, _<_}
+-- as from it, and how many cells in range have its key, each a column. The regions stand in rows of the range, so that only their columns
+-- are compared. Assumes nothing.
+use Prim.Native.Nat.{ℕ, zero, suc, _+_, _-_, _<_}
 use mathlib.Core.Path.{_≡_}
 use mathlib.Core.Bool.{Bool, true, false, cond, not, _&&_, _||_}
 use mathlib.Core.List.{List, [], _∷_}
@@ -9,17 +10,13 @@ use lib.Ieee.{Float, nan}
 use lib.ListN.{length, getD}
 use Rattle.model.specs.declared.ConditionalOperand.{ConditionalOperand}
 use Rattle.model.specs.declared.Outcome.{Outcome}
-use Rattle.model.specs.declared.Paint.{Paint}
 use Rattle.model.specs.declared.Range.{Range}
 use Rattle.model.specs.declared.Reading.{Reading}
-use Rattle.model.specs.declared.Rgb.{Rgb}
 use Rattle.model.specs.declared.Test.{Test}
-use Rattle.model.specs.Sheet.{inRange}
 use Rattle.model.specs.Readings.{finite}
 use Rattle.model.specs.References.{literal}
 use Rattle.model.specs.Comparison.{usesSecond}
-use Rattle.model.specs.Run.{asked, isUnresolved}
-use Rattle.cells.specs.Columns.{coordinateAt}
+use Rattle.model.specs.Run.{isUnresolved}
 use Rattle.hits.specs.declared.Found.{Found}
 use Rattle.hits.specs.Verdict.{firstOperand, secondOperand, verdictOn}
 use Rattle.hits.specs.Said.{readingOf, byteOf}
@@ -72,21 +69,25 @@ secondAt k t i = cond (byLiterals t) (literalOf (secondOperand t)) (numberAt (k 
 unfoldable pub verdictBy : Known → Test → Bool → ℕ → Outcome
 verdictBy k t imported i = verdictOn t imported (numberAt (k .values) i) (firstAt k t i) (secondAt k t i) (getD (k .founds) i 0)
 
--- of a region, with its stop flag
-unfoldable pub outcomeBy : Known → Range → Test → Bool → List ℕ → List ℕ → List ℕ → ℕ → Outcome
-outcomeBy k range t imported rows cols flags i =
+-- whether a column is one of the range's
+unfoldable pub columnIn : Range → ℕ → Bool
+columnIn range col = leb (range .left) col && leb col (range .right)
+
+-- of a region whose row is one of the range's, with its stop flag
+unfoldable pub outcomeBy : Known → Range → Test → Bool → List ℕ → List ℕ → ℕ → Outcome
+outcomeBy k range t imported cols flags i =
     let found = verdictBy k t imported i in
-    cond (not (eqb (getD flags i 0) 0)) Outcome.Stopped (cond (inRange range (coordinateAt rows cols i)) found Outcome.Passed)
+    cond (not (eqb (getD flags i 0) 0)) Outcome.Stopped (cond (columnIn range (getD cols i 0)) found Outcome.Passed)
 
 -- of the n regions from index i on
-unfoldable pub outcomesBy : Known → Range → Test → Bool → List ℕ → List ℕ → List ℕ → ℕ → ℕ → List Outcome
-outcomesBy k range t imported rows cols flags i zero = []
-outcomesBy k range t imported rows cols flags i (suc n) =
-    outcomeBy k range t imported rows cols flags i ∷ outcomesBy k range t imported rows cols flags (suc i) n
+unfoldable pub outcomesBy : Known → Range → Test → Bool → List ℕ → List ℕ → ℕ → ℕ → List Outcome
+outcomesBy k range t imported cols flags i zero = []
+outcomesBy k range t imported cols flags i (suc n) =
+    outcomeBy k range t imported cols flags i ∷ outcomesBy k range t imported cols flags (suc i) n
 
--- the bytes of n regions are what the test says of them
-abbrev pub Says : List ℕ → Known → Test → Bool → ℕ → Type 0
-Says said k t imported n = (i : ℕ) → i < n → getD said i 0 ≡ byteOf (verdictBy k t imported i)
+-- the bytes of n regions from index i on are what the test says of them
+abbrev pub Says : List ℕ → Known → Test → Bool → ℕ → ℕ → Type 0
+Says said k t imported i n = (j : ℕ) → j < n → getD said j 0 ≡ byteOf (verdictBy k t imported (i + j))
 
 -- ---- the regions that it paints
 
@@ -99,22 +100,31 @@ hitsFrom i (Outcome.Unresolved ∷ os) = hitsFrom (suc i) os
 hitsFrom i (Outcome.Painted p ∷ os) = i ∷ hitsFrom (suc i) os
 
 -- none where the test is unresolved
-unfoldable pub hitsOf : List Outcome → List ℕ
-hitsOf os = cond (isUnresolved os) [] (hitsFrom 0 os)
+unfoldable pub hitsOf : ℕ → List Outcome → List ℕ
+hitsOf i os = cond (isUnresolved os) [] (hitsFrom i os)
+
+-- where the first unresolved one stands, counted from i on; past the last where there is none
+unfoldable pub unresolvedFrom : ℕ → List Outcome → ℕ
+unresolvedFrom i [] = i
+unresolvedFrom i (Outcome.Stopped ∷ os) = unresolvedFrom (suc i) os
+unresolvedFrom i (Outcome.Passed ∷ os) = unresolvedFrom (suc i) os
+unresolvedFrom i (Outcome.Unresolved ∷ os) = i
+unresolvedFrom i (Outcome.Painted p ∷ os) = unresolvedFrom (suc i) os
 
 -- how many regions are not stopped, of the n from index i on
 unfoldable pub liveFrom : List ℕ → ℕ → ℕ → ℕ
 liveFrom flags i zero = 0
 liveFrom flags i (suc n) = let later = liveFrom flags (suc i) n in cond (eqb (getD flags i 0) 0) (suc later) later
 
--- there is a stop flag, a column and an entry of each table for each of the n regions, at most 1,024, and room for one hit more than those
-abbrev pub fitsHits : ℕ → Known → List ℕ → List ℕ → ℕ → Bool
-fitsHits n k cols flags room =
-    leb n 1024 && ltb n room && leb n (length cols) && leb n (length flags) && leb n (length (k .values)) && leb n (length (k .firsts))
-    && leb n (length (k .seconds)) && leb n (length (k .founds))
+-- the regions from `from` up to `to` are at most 1,024, each has a stop flag, a column and an entry of each table, and there is room for
+-- one hit more than those
+abbrev pub fitsHits : ℕ → ℕ → Known → List ℕ → List ℕ → ℕ → Bool
+fitsHits from to k cols flags room =
+    leb from to && leb to 1024 && ltb (to - from) room && leb to (length cols) && leb to (length flags) && leb to (length (k .values))
+    && leb to (length (k .firsts)) && leb to (length (k .seconds)) && leb to (length (k .founds))
 
-unfoldable pub foundIn : Bool → List Outcome → Found
-foundIn fits os =
+unfoldable pub foundIn : Bool → ℕ → List Outcome → Found
+foundIn fits from os =
     cond fits
-    (record { fits = true; asked = asked os; unresolved = isUnresolved os; count = length (hitsOf os) })
-    (record { fits = false; asked = 0; unresolved = false; count = 0 })
+    (record { fits = true; unresolved = isUnresolved os; at = unresolvedFrom from os; count = length (hitsOf from os) })
+    (record { fits = false; unresolved = false; at = 0; count = 0 })

@@ -1,3 +1,4 @@
 pub mod Cases
+pub mod AnyOrder
 pub mod Laws
 pub mod Examples

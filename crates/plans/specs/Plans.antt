@@ -1,7 +1,8 @@
 -- What a rule comes to ahead of its regions, apart by what it is worked out from: the values of its range, or its operands.
 -- Assumes nothing.
-use mathlib.Core.Bool.{Bool, true, false, cond, _&&_, _||_}
+use mathlib.Core.Bool.{Bool, true, false, cond, not, _&&_, _||_}
 use mathlib.Core.List.{List}
+use lib.Dec.{ltb}
 use lib.Ieee.{Float}
 use Rattle.model.specs.declared.CfRule.{CfRule}
 use Rattle.model.specs.declared.Test.{Test}
@@ -9,6 +10,8 @@ use Rattle.model.specs.declared.Plan.{Plan}
 use Rattle.model.specs.References.{unread}
 use Rattle.model.specs.Comparison.{usesSecond}
 use Rattle.model.specs.Rule.{scale2, scale3, bar, rank, mean}
+use Rattle.ranks.specs.Finite.{allFinite}
+use Rattle.plans.specs.declared.Planned.{Planned}
 
 -- ---- by values
 
@@ -33,6 +36,21 @@ planOfValues (CfRule.TopBottom number bottom percent fill) xs = rank number bott
 planOfValues (CfRule.AboveAverage below fill) xs = mean below fill xs
 planOfValues (CfRule.DuplicateValues unique fill) xs = Plan.Skipped
 planOfValues (CfRule.Expression op left right fill) xs = Plan.Skipped
+
+-- kinds that need the values in order; a rank of 0 is skipped whatever they are
+unfoldable pub ordersValues : CfRule → Bool
+ordersValues (CfRule.CellIs op first second fill) = false
+ordersValues (CfRule.ColorScale2 min max) = false
+ordersValues (CfRule.ColorScale3 min mid max) = true
+ordersValues (CfRule.DataBar color) = false
+ordersValues (CfRule.TopBottom number bottom percent fill) = ltb 0 number
+ordersValues (CfRule.AboveAverage below fill) = false
+ordersValues (CfRule.DuplicateValues unique fill) = false
+ordersValues (CfRule.Expression op left right fill) = false
+
+-- by values in any order: those that are all finite need not be put in order
+unfoldable pub plannedOf : CfRule → List Float → Planned
+plannedOf kind xs = cond (ordersValues kind && not (allFinite xs)) Planned.Unordered (Planned.Of (planOfValues kind xs))
 
 -- ---- by operands
 

@@ -1,13 +1,18 @@
 // What a rule comes to ahead of its regions: the arms of resolve_conditional_paints (conditional.rs), each up to its loop over the regions.
 // The definitions are model's Rule.antt. An inverted range defers before any of this.
 ghost use mathlib.Core.Path.{_≡_};
+ghost use mathlib.Core.Bool.{true, false};
+ghost use mathlib.Core.List.{List};
+ghost use lib.Ieee.{Float};
 ghost use lib.ListN.{length, replicate};
 ghost use Rattle.model.specs.declared.CfRule.{CfRule};
 ghost use Rattle.model.specs.Ratio.{zeroF};
 ghost use Rattle.model.specs.References.{unread};
-ghost use Rattle.model.specs.Values.{sorted, midpoint, threshold};
-ghost use Rattle.model.specs.Rule.{scale2, scale3, bar, rank, mean};
-ghost use Rattle.plans.specs.Plans.{takesValues, planOfValues, planOfOperands};
+ghost use Rattle.model.specs.Values.{sorted, midpoint};
+ghost use Rattle.model.specs.Rule.{scale2, scale3, bar, mean};
+ghost use Rattle.values.specs.Bounds.{boundsOf};
+ghost use Rattle.ranks.specs.Finite.{allFinite};
+ghost use Rattle.plans.specs.Plans.{takesValues, planOfValues, ordersValues, plannedOf, planOfOperands};
 use model::CfRule;
 use model::ConditionalComparison;
 use model::ConditionalOperand;
@@ -18,6 +23,12 @@ use model::Rgb;
 use model::Test;
 use readings::number::is_finite;
 use values::Bounds;
+
+// What a rule comes to by values that are not moved: nothing is told where they would have to be put in order.
+pub enum Planned {
+    Of(Plan),
+    Unordered,
+}
 
 // ---- by operands
 
@@ -116,36 +127,34 @@ fn color_scale2(min: Rgb, max: Rgb, values: &[f64]) -> Plan
     })
 }
 
-// Of finite values counting gives it; only others are put in order.
-fn midpoint_of(values: &mut [f64]) -> f64
-    ensures { λ r. ⌜ r ≡ midpoint (sorted (now (values .entry))) ⌝ }
+// Port of the arm CfRule::ColorScale3 up to its regions, of values with these bounds and this midpoint.
+fn color_scale3(min: Rgb, mid: Rgb, max: Rgb, bounds: Bounds, middle: f64) -> Plan
+    ensures { λ r. ⌜ ((xs : List Float) → bounds ≡ boundsOf xs → middle ≡ midpoint (sorted xs) → r ≡ scale3 min mid max xs) ⌝ }
 {
-    match ranks::midpoint(values) {
-        Reading::Number(x) => x,
-        Reading::Nothing => {
-            values::sort(values);
-            values::midpoint(values)
-        }
-    }
-}
-
-// Port of the arm CfRule::ColorScale3 up to its regions. The bounds are taken ahead of the midpoint, which may sort: that puts -0 before
-// an earlier +0.
-fn color_scale3(min: Rgb, mid: Rgb, max: Rgb, values: &mut [f64]) -> Plan
-    ensures { λ r. ⌜ r ≡ scale3 min mid max (now (values .entry)) ⌝ }
-{
-    let Bounds::Of { least, greatest } = values::numeric_bounds(values) else {
+    let Bounds::Of { least, greatest } = bounds else {
         return Plan::Skipped;
     };
-    let midpoint = midpoint_of(values);
     Plan::Tested(Test::ColorScale3 {
         min,
         mid,
         max,
         least,
-        midpoint,
+        midpoint: middle,
         greatest,
     })
+}
+
+// The same, by values that are not moved.
+fn color_scale3_of(min: Rgb, mid: Rgb, max: Rgb, values: &[f64]) -> Planned
+    ensures { λ r. ⌜ r ≡ plannedOf (CfRule.ColorScale3 min mid max) (now (values .entry)) ⌝ }
+{
+    match ranks::midpoint(values) {
+        Reading::Number(middle) => {
+            let bounds = values::numeric_bounds(values);
+            Planned::Of(color_scale3(min, mid, max, bounds, middle))
+        }
+        Reading::Nothing => Planned::Unordered,
+    }
 }
 
 // Port of the arm CfRule::DataBar up to its regions.
@@ -162,36 +171,25 @@ fn data_bar(color: Rgb, values: &[f64]) -> Plan
     })
 }
 
-// Of finite values counting gives it; only others are put in order.
-fn threshold_of(bottom: bool, count: usize, values: &mut [f64]) -> f64
-    ensures { λ r. ⌜ r ≡ threshold bottom count (sorted (now (values .entry))) ⌝ }
-{
-    match ranks::threshold(bottom, count, values) {
-        Reading::Number(x) => x,
-        Reading::Nothing => {
-            values::sort(values);
-            values::threshold(bottom, count, values)
-        }
-    }
-}
-
-// Port of the arm CfRule::TopBottom up to its regions.
-fn top_bottom(number: u32, bottom: bool, percent: bool, fill: Rgb, values: &mut [f64]) -> Plan
-    ensures { λ r. ⌜ r ≡ rank number bottom percent fill (now (values .entry)) ⌝ }
+// Port of the arm CfRule::TopBottom up to its regions, by values that are not moved.
+fn top_bottom(number: u32, bottom: bool, percent: bool, fill: Rgb, values: &[f64]) -> Planned
+    ensures { λ r. ⌜ r ≡ plannedOf (CfRule.TopBottom number bottom percent fill) (now (values .entry)) ⌝ }
 {
     let n = values.len();
     if n == 0 {
-        return Plan::Skipped;
+        return Planned::Of(Plan::Skipped);
     }
     if number == 0 {
-        return Plan::Skipped;
+        return Planned::Of(Plan::Skipped);
     }
-    let threshold = threshold_of(bottom, values::selected(percent, number, n), values);
-    Plan::Tested(Test::TopBottom {
-        bottom,
-        threshold,
-        fill,
-    })
+    match ranks::threshold(bottom, values::selected(percent, number, n), values) {
+        Reading::Number(threshold) => Planned::Of(Plan::Tested(Test::TopBottom {
+            bottom,
+            threshold,
+            fill,
+        })),
+        Reading::Nothing => Planned::Unordered,
+    }
 }
 
 // Port of the arm CfRule::AboveAverage up to its regions. A sum that is not finite defers.
@@ -227,33 +225,69 @@ pub fn takes_values(kind: CfRule) -> bool
     }
 }
 
-// Port of the five arms that call conditional_numeric_values, whose values these are, in sheet order. The other kinds are skipped.
-fn plan_by(kind: CfRule, values: &mut [f64]) -> Plan
-    ensures { λ r. ⌜ r ≡ planOfValues kind (now (values .entry)) ⌝ }
+// Port of the five arms that call conditional_numeric_values, whose values these are, in sheet order. The other kinds are skipped. No value
+// is moved or written: counting gives what stands at a place of the values in order, if they are all finite.
+pub fn plan_of_numbers(kind: CfRule, values: &[f64]) -> Planned
+    ensures { λ r. ⌜ r ≡ plannedOf kind (now (values .entry)) ⌝ }
 {
     match kind {
-        CfRule::CellIs { .. } => Plan::Skipped,
-        CfRule::ColorScale2 { min, max } => color_scale2(min, max, values),
-        CfRule::ColorScale3 { min, mid, max } => color_scale3(min, mid, max, values),
-        CfRule::DataBar { color } => data_bar(color, values),
+        CfRule::CellIs { .. } => Planned::Of(Plan::Skipped),
+        CfRule::ColorScale2 { min, max } => Planned::Of(color_scale2(min, max, values)),
+        CfRule::ColorScale3 { min, mid, max } => color_scale3_of(min, mid, max, values),
+        CfRule::DataBar { color } => Planned::Of(data_bar(color, values)),
         CfRule::TopBottom {
             rank,
             bottom,
             percent,
             fill,
         } => top_bottom(rank, bottom, percent, fill, values),
-        CfRule::AboveAverage { below, fill } => above_average(below, fill, values),
-        CfRule::DuplicateValues { .. } => Plan::Skipped,
-        CfRule::Expression { .. } => Plan::Skipped,
+        CfRule::AboveAverage { below, fill } => Planned::Of(above_average(below, fill, values)),
+        CfRule::DuplicateValues { .. } => Planned::Of(Plan::Skipped),
+        CfRule::Expression { .. } => Planned::Of(Plan::Skipped),
     }
 }
 
-// The same. The values are scratch: they may be sorted on the way, and are left cleared.
+// The two kinds that need the values in order, where counting does not tell. The bounds are taken ahead of sorting, which puts -0 before
+// an earlier +0.
+fn plan_in_order(kind: CfRule, values: &mut [f64]) -> Plan
+    requires { ⌜ ordersValues kind ≡ true ⌝ }
+    requires { ⌜ allFinite (now values) ≡ false ⌝ }
+    ensures { λ r. ⌜ r ≡ planOfValues kind (now (values .entry)) ⌝ }
+{
+    match kind {
+        CfRule::ColorScale3 { min, mid, max } => {
+            let bounds = values::numeric_bounds(values);
+            values::sort(values);
+            color_scale3(min, mid, max, bounds, values::midpoint(values))
+        }
+        CfRule::TopBottom {
+            rank,
+            bottom,
+            percent,
+            fill,
+        } => {
+            let count = values::selected(percent, rank, values.len());
+            values::sort(values);
+            let threshold = values::threshold(bottom, count, values);
+            Plan::Tested(Test::TopBottom {
+                bottom,
+                threshold,
+                fill,
+            })
+        }
+        _ => Plan::Skipped,
+    }
+}
+
+// The same as plan_of_numbers, of any values. They are scratch: they may be sorted on the way, and are left cleared.
 pub fn plan_of_values(kind: CfRule, values: &mut [f64]) -> Plan
     ensures { λ r. ⌜ r ≡ planOfValues kind (now (values .entry)) ⌝ }
     ensures { λ _. ⌜ now (values .exit) ≡ replicate (length (now (values .entry))) zeroF ⌝ }
 {
-    let plan = plan_by(kind, values);
+    let plan = match plan_of_numbers(kind, values) {
+        Planned::Of(plan) => plan,
+        Planned::Unordered => plan_in_order(kind, values),
+    };
     lent::clear_f64(values);
     plan
 }

@@ -44,7 +44,7 @@ byte-in : (range : Range) (c : CellColumns) (i : ℕ) (here : Bool) → i < leng
 byte-in range c i true h e = ap length (left-within range c i h e) ∙ sym (one-add _)
 byte-in range c i false h e = ap length (left-outside range c i h e) ∙ sym (zero-add _)
 
-byte-few : (b : Bool) → boolByte b ≤ 1
+pub byte-few : (b : Bool) → boolByte b ≤ 1
 byte-few true = omega arith
 byte-few false = omega arith
 

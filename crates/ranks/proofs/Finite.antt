@@ -1,19 +1,18 @@
 -- Values that are all finite, by their members and by counts, and the number that is told of them. Assumes nothing.
 use Prim.Native.Nat.{ℕ, suc, _+_}
-use native.Mathlib.Nat.{zero-add}
 use native.Mathlib.Omega.{arith}
 use mathlib.Core.Path.{_≡_, refl, ap, _∙_}
-use mathlib.Core.Bool.{Bool, true, false, cond, _&&_, and-false, true≢false, false≢true}
+use mathlib.Core.Bool.{Bool, true, false, cond, _&&_, true≢false, false≢true}
 use mathlib.Core.List.{List, [], _∷_, not-mem-nil}
 use borrow.Author.Tests.{ne-eqb}
 use lib.Dec.{eqb, eqb·suc-suc}
 use lib.ListN.{length}
-use lib.Ieee.{Float, nan, inf, fin, lt, le, eq}
+use lib.Ieee.{Float, nan, inf, fin, lt}
 use Rattle.model.specs.declared.Reading.{Reading}
 use Rattle.model.specs.Readings.{finite}
 use Rattle.laws.proofs.Sorting.{Each, each-cons}
 use Rattle.laws.proofs.FloatOrder.{Finite}
-use Rattle.ranks.specs.Counts.{countBy, below, upTo}
+use Rattle.ranks.specs.Counts.{countBy}
 use Rattle.ranks.specs.Finite.{allFinite, ifFinite}
 use Rattle.ranks.proofs.Counting.{count-most}
 
@@ -29,25 +28,25 @@ all-finite (x ∷ xs) e = decided (finite x) refl e (all-finite xs)
 eqb-more : (a b : ℕ) → eqb (1 + a) (suc b) ≡ eqb a b
 eqb-more a b = let e : 1 + a ≡ suc a = omega arith in ap (λ (n : ℕ). eqb n (suc b)) e ∙ eqb·suc-suc a b
 
--- among one more not all are less than ∞
-too-few : (xs : List Float) → eqb (0 + below (inf false) xs) (suc (length xs)) ≡ false
-too-few xs =
-    let n = 0 + below (inf false) xs in
-    let m = suc (length xs) in
-    ne-eqb n m (λ (e : n ≡ m). omega (arith, e, count-most (λ x. lt x (inf false)) xs))
+-- greater than -∞ and less than ∞
+abbrev pub bounded : Float → Bool
+bounded x = lt (inf true) x && lt x (inf false)
 
--- all are less than ∞, and none is at most -∞
-pub finite-counted : (xs : List Float) → eqb (below (inf false) xs) (length xs) && eqb (upTo (inf true) xs) 0 ≡ allFinite xs
-unfolding allFinite countBy finite lt le eq
+-- among one more not all are bounded
+too-few : (xs : List Float) → eqb (0 + countBy bounded xs) (suc (length xs)) ≡ false
+too-few xs =
+    let n = 0 + countBy bounded xs in
+    let m = suc (length xs) in
+    ne-eqb n m (λ (e : n ≡ m). omega (arith, e, count-most bounded xs))
+
+-- values are all finite exactly if as many are bounded as there are
+pub finite-counted : (xs : List Float) → eqb (countBy bounded xs) (length xs) ≡ allFinite xs
+unfolding allFinite countBy finite lt
 finite-counted [] = refl
-finite-counted (nan ∷ xs) = ap (λ (b : Bool). b && eqb (0 + upTo (inf true) xs) 0) (too-few xs)
-finite-counted (inf false ∷ xs) = ap (λ (b : Bool). b && eqb (0 + upTo (inf true) xs) 0) (too-few xs)
-finite-counted (inf true ∷ xs) =
-    let n = eqb (1 + below (inf false) xs) (suc (length xs)) in
-    let m = 1 + upTo (inf true) xs in
-    ap (λ (b : Bool). n && b) (ne-eqb m 0 (λ (e : m ≡ 0). omega (arith, e))) ∙ and-false n
-finite-counted (fin s m e ∷ xs) =
-    (λ i. eqb-more (below (inf false) xs) (length xs) i && eqb (zero-add (upTo (inf true) xs) i) 0) ∙ finite-counted xs
+finite-counted (nan ∷ xs) = too-few xs
+finite-counted (inf false ∷ xs) = too-few xs
+finite-counted (inf true ∷ xs) = too-few xs
+finite-counted (fin s m e ∷ xs) = eqb-more (countBy bounded xs) (length xs) ∙ finite-counted xs
 
 -- ---- the number told
 

@@ -63,9 +63,20 @@ pub(crate) fn stands_at(values: &[f64], k: usize, t: f64) -> bool
     count_below(values, t) <= k && k < count_up_to(values, t)
 }
 
-// Finite values are all less than ∞, and none is at most -∞.
+// Finite values are all less than ∞ and greater than -∞. No branch depends on a value.
 pub(crate) fn all_finite(values: &[f64]) -> bool
     ensures { λ r. ⌜ r ≡ allFinite (now (values .entry)) ⌝ }
 {
-    count_below(values, 1.0 / 0.0) == values.len() && count_up_to(values, -1.0 / 0.0) == 0
+    let low = -1.0 / 0.0;
+    let high = 1.0 / 0.0;
+    let mut count: usize = 0;
+    let mut i = 0;
+    while i < values.len() {
+        let x = values[i];
+        if (low < x) & (x < high) {
+            count += 1;
+        }
+        i += 1;
+    }
+    count == values.len()
 }

@@ -8,18 +8,20 @@ use lib.Ieee.{Float, nan}
 use lib.ListN.{length, getD, replicate}
 use lib.Seq.{sets}
 use Rattle.model.specs.declared.Outcome.{Outcome}
-use Rattle.model.specs.declared.Range.{Range}
+use Rattle.model.specs.declared.Rule.{Rule}
 use Rattle.model.specs.declared.Test.{Test}
+use Rattle.model.specs.Sheet.{Sheet}
 use Rattle.model.specs.Run.{marksFrom}
-use Rattle.hits.specs.Hits.{Known, outcomesBy, hitsFrom}
+use Rattle.hits.specs.Hits.{hitsFrom}
 use Rattle.hits.specs.Painted.{kindBy, colourBy, ppmBy}
+use Rattle.turns.specs.Step.{outcomesFrom}
 use Rattle.turns.specs.Emit.{markColumns, putMark, putMarks, hitMark}
 
-pub outcomes-long : (k : Known) (range : Range) (t : Test) (imported : Bool) (rows cols flags : List ℕ) (i n : ℕ)
-    → length (outcomesBy k range t imported rows cols flags i n) ≡ n
-unfolding outcomesBy
-outcomes-long k range t imported rows cols flags i zero = refl
-outcomes-long k range t imported rows cols flags i (suc n) = ap suc (outcomes-long k range t imported rows cols flags (suc i) n)
+pub outcomes-long : (s : Sheet) (r : Rule) (t : Test) (rows cols flags : List ℕ) (i n : ℕ)
+    → length (outcomesFrom s r t rows cols flags i n) ≡ n
+unfolding outcomesFrom
+outcomes-long s r t rows cols flags i zero = refl
+outcomes-long s r t rows cols flags i (suc n) = ap suc (outcomes-long s r t rows cols flags (suc i) n)
 
 pub hits-few : (i : ℕ) (os : List Outcome) → length (hitsFrom i os) ≤ length os
 unfolding hitsFrom
@@ -38,7 +40,7 @@ hits-marks rule i (Outcome.Unresolved ∷ os) = hits-marks rule (suc i) os
 hits-marks rule i (Outcome.Painted p ∷ os) = ap suc (hits-marks rule (suc i) os)
 
 -- each is one of the regions from i on
-hits-within : (i : ℕ) (os : List Outcome) (j : ℕ) → j < length (hitsFrom i os) → getD (hitsFrom i os) j 0 < i + length os
+pub hits-within : (i : ℕ) (os : List Outcome) (j : ℕ) → j < length (hitsFrom i os) → getD (hitsFrom i os) j 0 < i + length os
 unfolding hitsFrom
 hits-within i [] j h = omega arith
 hits-within i (Outcome.Stopped ∷ os) j h = omega (arith, hits-within (suc i) os j h)
@@ -46,9 +48,6 @@ hits-within i (Outcome.Passed ∷ os) j h = omega (arith, hits-within (suc i) os
 hits-within i (Outcome.Unresolved ∷ os) j h = omega (arith, hits-within (suc i) os j h)
 hits-within i (Outcome.Painted p ∷ os) zero h = omega arith
 hits-within i (Outcome.Painted p ∷ os) (suc j) h = omega (arith, hits-within (suc i) os j (omega arith))
-
-pub hits-below : (os : List Outcome) (j : ℕ) → j < length (hitsFrom 0 os) → getD (hitsFrom 0 os) j 0 < length os
-hits-below os j h = omega (arith, hits-within 0 os j h)
 
 -- each column by itself
 pub put-hits : (t : Test) (imported : Bool) (values : List Float) (rule : ℕ) (a b c d e : List ℕ) (n : ℕ) (hs : List ℕ)

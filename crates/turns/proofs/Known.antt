@@ -32,6 +32,8 @@ use Rattle.hits.specs.Said.{asFloat, readingOf}
 use Rattle.hits.specs.Hits.{Known, verdictBy, outcomeBy, outcomesBy}
 use Rattle.turns.specs.Step.{flagged, outcomesFrom}
 use Rattle.turns.specs.Knowing.{Knows, takesFirst, takesSecond, countsKeys}
+use Rattle.turns.specs.Bands.{BandOf}
+use Rattle.turns.proofs.Bands.{within-band}
 
 -- ---- a reading as a float and back
 
@@ -137,7 +139,7 @@ verdict-needs (Test.DuplicateValues unique fill) imported value a b c d m n one 
 verdict-needs (Test.Expression op left right fill) imported value a b c d m n one two count = rw (one refl, two refl)
 
 module _ (s : Sheet) (r : Rule) (t : Test) (rows cols flags : List ℕ) (k : Known) (knows : Knows s (r .range) t rows cols k) where
-  verdict-known : (i : ℕ) → i < length rows → inRange (r .range) (coordinateAt rows cols i) ≡ true
+  pub verdict-known : (i : ℕ) → i < length rows → inRange (r .range) (coordinateAt rows cols i) ≡ true
       → verdictBy k t (r .imported) i ≡ verdict s r (coordinateAt rows cols i) t
   unfolding verdictBy
   verdict-known i h within =
@@ -145,21 +147,26 @@ module _ (s : Sheet) (r : Rule) (t : Test) (rows cols flags : List ℕ) (k : Kno
       (verdict-needs t (r .imported) _ _ _ _ _ _ _ (λ takes. knows .first takes i h within) (λ takes. knows .second takes i h within)
       (λ counts. knows .found counts i h within))
 
-  outcome-known : (i : ℕ) → i < length rows
-      → outcomeBy k (r .range) t (r .imported) rows cols flags i
-      ≡ outcome s r t (coordinateAt rows cols i) (flagged (getD flags i 0))
-  unfolding outcomeBy outcome
-  outcome-known i h = go (not (eqb (getD flags i 0) 0)) _ refl
-    where
-      go : (stopped within : Bool) → inRange (r .range) (coordinateAt rows cols i) ≡ within
-          → cond stopped Outcome.Stopped (cond within (verdictBy k t (r .imported) i) Outcome.Passed)
-          ≡ cond stopped Outcome.Stopped (cond within (verdict s r (coordinateAt rows cols i) t) Outcome.Passed)
-      go true within e = refl
-      go false true e = verdict-known i h e
-      go false false e = refl
+  -- inside the band of the rule's rows its columns alone decide
+  module _ {from to : ℕ} (band : BandOf (r .range) rows from to) where
+    pub outcome-known : (i : ℕ) → from ≤ i → i < to
+        → outcomeBy k (r .range) t (r .imported) cols flags i
+        ≡ outcome s r t (coordinateAt rows cols i) (flagged (getD flags i 0))
+    unfolding outcomeBy outcome
+    outcome-known i a b = rw (← within-band band cols i a b) (go (not (eqb (getD flags i 0) 0)) _ refl)
+      where
+        inside : i < length rows
+        inside = omega (arith, b, band .within)
 
-  pub outcomes-known : (i n : ℕ) → i + n ≤ length rows
-      → outcomesBy k (r .range) t (r .imported) rows cols flags i n ≡ outcomesFrom s r t rows cols flags i n
-  unfolding outcomesBy outcomesFrom
-  outcomes-known i zero h = refl
-  outcomes-known i (suc n) h = rw (outcome-known i (omega arith), outcomes-known (suc i) n (omega arith))
+        go : (stopped within : Bool) → inRange (r .range) (coordinateAt rows cols i) ≡ within
+            → cond stopped Outcome.Stopped (cond within (verdictBy k t (r .imported) i) Outcome.Passed)
+            ≡ cond stopped Outcome.Stopped (cond within (verdict s r (coordinateAt rows cols i) t) Outcome.Passed)
+        go true within e = refl
+        go false true e = verdict-known i inside e
+        go false false e = refl
+
+    pub outcomes-known : (i n : ℕ) → from ≤ i → i + n ≤ to
+        → outcomesBy k (r .range) t (r .imported) cols flags i n ≡ outcomesFrom s r t rows cols flags i n
+    unfolding outcomesBy outcomesFrom
+    outcomes-known i zero a b = refl
+    outcomes-known i (suc n) a b = rw (outcome-known i a (omega arith), outcomes-known (suc i) n (omega arith) (omega arith))

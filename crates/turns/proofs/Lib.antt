@@ -13,3 +13,7 @@ pub mod Answering
 pub mod Known
 pub mod Painted
 pub mod Hits
+pub mod Bands
+pub mod Asked
+pub mod Banded
+pub mod Stopped

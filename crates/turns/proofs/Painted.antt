@@ -1,29 +1,33 @@
 -- The marks, the bars and the stop flags of outcomes are those of the regions that they paint, each mark by the test and the number of
 -- the region's cell. Assumes nothing.
-use Prim.Native.Nat.{ℕ, zero, suc}
+use Prim.Native.Nat.{ℕ, zero, suc, _+_, _≤_, _<_}
 use mathlib.Core.Path.{_≡_, refl}
 use mathlib.Core.Bool.{Bool, true, false, cond, not, _&&_}
 use mathlib.Core.List.{List, [], _∷_, map}
+use native.Mathlib.Omega.{arith}
 use lib.Dec.{leb, eqb}
 use lib.Ieee.{Float, nan, eq}
-use lib.ListN.{getD, set}
+use lib.ListN.{length, getD, set}
 use Rattle.model.specs.declared.Outcome.{Outcome}
 use Rattle.model.specs.declared.Paint.{Paint}
-use Rattle.model.specs.declared.Range.{Range}
 use Rattle.model.specs.declared.Reading.{Reading}
 use Rattle.model.specs.declared.Rgb.{Rgb}
+use Rattle.model.specs.declared.Rule.{Rule}
 use Rattle.model.specs.declared.Test.{Test}
 use Rattle.model.specs.Ratio.{packed}
-use Rattle.model.specs.Sheet.{inRange}
-use Rattle.model.specs.Rule.{filled, barred, filledIf, onValue, onOperand, onSecond}
-use Rattle.model.specs.Run.{hasBar, marksFrom}
+use Rattle.model.specs.Sheet.{Sheet, inRange}
+use Rattle.model.specs.Rule.{filled, barred, filledIf, onValue, onOperand, onSecond, verdict}
+use Rattle.model.specs.Run.{outcome, hasBar, marksFrom}
 use Rattle.cells.specs.Columns.{coordinateAt}
 use Rattle.plans.specs.Plans.{isBarTest}
 use Rattle.hits.specs.Verdict.{cellIs, byNumber, duplicateValues, expression, verdictOn}
 use Rattle.hits.specs.Said.{readingOf}
-use Rattle.hits.specs.Hits.{Known, verdictBy, outcomeBy, outcomesBy, hitsFrom}
+use Rattle.hits.specs.Hits.{Known, verdictBy, hitsFrom}
 use Rattle.hits.specs.Painted.{kindBy, colourBy, ppmBy, paintBy}
+use Rattle.turns.specs.Step.{flagged, outcomesFrom}
 use Rattle.turns.specs.Emit.{BarColumns, barColumns, drawBar, drawBars, drawHit, drawHits, hitMark, stopAt, stops, stopHits, Paints}
+use Rattle.turns.specs.Knowing.{Knows}
+use Rattle.turns.proofs.Known.{verdict-known}
 
 -- ---- what a painted region gets
 
@@ -154,34 +158,43 @@ module _ (t : Test) (imported : Bool) (values : List Float) (rule : ℕ) where
         go true = refl
         go false = refl
 
-module _ (k : Known) (range : Range) (t : Test) (imported : Bool) (rows cols flags : List ℕ) where
+module _ (s : Sheet) (r : Rule) (t : Test) (rows cols flags : List ℕ) (k : Known) (knows : Knows s (r .range) t rows cols k) where
   abbrev outcomesAt : ℕ → ℕ → List Outcome
-  outcomesAt i n = outcomesBy k range t imported rows cols flags i n
+  outcomesAt i n = outcomesFrom s r t rows cols flags i n
 
-  outcome-only : (i : ℕ) → Only (paintBy t imported (getD (k .values) i nan)) (outcomeBy k range t imported rows cols flags i)
-  unfolding outcomeBy
-  outcome-only i = go (not (eqb (getD flags i 0) 0)) (inRange range (coordinateAt rows cols i))
+  outcome-only : (i : ℕ) → i < length rows → Only (paintBy t (r .imported) (getD (k .values) i nan))
+      (outcome s r t (coordinateAt rows cols i) (flagged (getD flags i 0)))
+  unfolding outcome
+  outcome-only i h = go (not (eqb (getD flags i 0) 0)) _ refl
     where
-      go : (stopped within : Bool) → Only (paintBy t imported (getD (k .values) i nan))
-          (cond stopped Outcome.Stopped (cond within (verdictBy k t imported i) Outcome.Passed))
-      go true within = λ q e. cc
-      go false true = painted-by k t imported i
-      go false false = passed-only
+      go : (stopped within : Bool) → inRange (r .range) (coordinateAt rows cols i) ≡ within
+          → Only (paintBy t (r .imported) (getD (k .values) i nan))
+          (cond stopped Outcome.Stopped (cond within (verdict s r (coordinateAt rows cols i) t) Outcome.Passed))
+      go true within e = λ q g. cc
+      go false true e = rw (← verdict-known s r t rows cols flags k knows i h e) (painted-by k t (r .imported) i)
+      go false false e = passed-only
 
-  marks-from : (rule i n : ℕ) → MarksFrom t imported (k .values) rule i (outcomesAt i n)
-  unfolding outcomesBy marksFrom hitsFrom
-  marks-from rule i zero = refl
-  marks-from rule i (suc n) =
-      marks-onward t imported (k .values) rule i _ (outcomesAt (suc i) n) (outcome-only i) (marks-from rule (suc i) n)
+  marks-from : (rule i n : ℕ) → i + n ≤ length rows → MarksFrom t (r .imported) (k .values) rule i (outcomesAt i n)
+  unfolding outcomesFrom marksFrom hitsFrom
+  marks-from rule i zero h = refl
+  marks-from rule i (suc n) h =
+      marks-onward t (r .imported) (k .values) rule i _ (outcomesAt (suc i) n) (outcome-only i (omega arith))
+      (marks-from rule (suc i) n (omega arith))
 
-  bars-from : (rule i n : ℕ) → BarsFrom t imported (k .values) rule i (outcomesAt i n)
-  unfolding outcomesBy
-  bars-from rule i zero = bars-none t imported (k .values) rule i
-  bars-from rule i (suc n) =
-      bars-onward t imported (k .values) rule i _ (outcomesAt (suc i) n) (outcome-only i) (bars-from rule (suc i) n)
+  bars-from : (rule i n : ℕ) → i + n ≤ length rows → BarsFrom t (r .imported) (k .values) rule i (outcomesAt i n)
+  unfolding outcomesFrom
+  bars-from rule i zero h = bars-none t (r .imported) (k .values) rule i
+  bars-from rule i (suc n) h =
+      bars-onward t (r .imported) (k .values) rule i _ (outcomesAt (suc i) n) (outcome-only i (omega arith))
+      (bars-from rule (suc i) n (omega arith))
 
-  pub outcomes-paint : (n : ℕ) → Paints t imported (k .values) (outcomesAt 0 n)
-  outcomes-paint n = record { marks = λ rule. marks-from rule 0 n; bars = λ rule. bars-from rule 0 n }
+  -- whatever the band: a region out of range is not painted
+  pub whole-paints : Paints t (r .imported) (k .values) (outcomesFrom s r t rows cols flags 0 (length rows))
+  whole-paints =
+      record {
+        marks = λ rule. marks-from rule 0 (length rows) (omega arith);
+        bars = λ rule. bars-from rule 0 (length rows) (omega arith);
+      }
 
 pub none-paint : (t : Test) (imported : Bool) (values : List Float) → Paints t imported values []
 unfolding marksFrom hitsFrom

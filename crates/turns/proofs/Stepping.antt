@@ -26,7 +26,7 @@ use Rattle.turns.proofs.Judging.{StoppedBy, Judges, judges}
 
 -- ---- by what the charges came to
 
-cond-few : (b : Bool) → cond b 1 0 ≤ 1
+pub cond-few : (b : Bool) → cond b 1 0 ≤ 1
 cond-few true = omega arith
 cond-few false = omega arith
 

@@ -3,3 +3,4 @@ pub mod Emit
 pub mod Knowing
 pub mod Turns
 pub mod Lent
+pub mod Bands

@@ -3,3 +3,6 @@ pub mod Parts
 pub mod Folds
 pub mod Signs
 pub mod Insertion
+pub mod Numbers
+pub mod LeastBy
+pub mod Quarters

@@ -11,7 +11,7 @@ upright-requires : tie.Need-upright-requires
 upright-requires c κs = search needs
 
 returns : tie.Need-returns
-returns c kinds wraps nums ats lens regions pool name =
+returns c rows kinds wraps nums ats lens regions pool name b =
     ahead-inverted _ _ _ _ (sym (c .before .upright .ensures) ∙ not-true _ (c .if1 .taken))
 
 takes-values-requires : tie.Need-takes-values-requires
@@ -24,10 +24,10 @@ charge-times-requires : tie.Need-charge-times-requires
 charge-times-requires c κs = search needs
 
 returns-2 : tie.Need-returns-2
-returns-2 c kinds wraps nums ats lens regions pool name =
+returns-2 c rows kinds wraps nums ats lens regions pool name b =
     let taken = c .before .before .before in
     c .charge-times .ensures
-    ∙ rw (c .before .cells-in .ensures kinds wraps nums ats lens)
+    ∙ rw (c .before .cells-in .ensures rows kinds wraps nums ats lens b)
     (ahead-values _ _ _ _ (sym (taken .before .before .upright .ensures) ∙ not-false _ (taken .before .if1 .left))
     (sym (taken .takes-values .ensures) ∙ c .before .before .if2 .taken))
 
@@ -41,7 +41,7 @@ charge-area-requires : tie.Need-charge-area-requires
 charge-area-requires c κs = search needs
 
 returns-3 : tie.Need-returns-3
-returns-3 c kinds wraps nums ats lens regions pool name =
+returns-3 c rows kinds wraps nums ats lens regions pool name b =
     let up = c .before .before .before .before .before .before in
     c .charge-area .ensures
     ∙ rw (c .before .area .ensures)
@@ -49,7 +49,7 @@ returns-3 c kinds wraps nums ats lens regions pool name =
     (sym (c .before .before .before .charges-area .ensures) ∙ c .before .before .if3 .taken))
 
 returns-4 : tie.Need-returns-4
-returns-4 c kinds wraps nums ats lens regions pool name =
+returns-4 c rows kinds wraps nums ats lens regions pool name b =
     let other = c .before .before in
     let up = other .before .before in
     ahead-none _ _ _ _ (sym (up .before .upright .ensures) ∙ not-false _ (up .if1 .left))

@@ -13,8 +13,8 @@ slice-aggregate-count-codes c = search needs
 
 count-codes-requires : tie.Need-count-codes-requires
 count-codes-requires c κs =
-    let pre = c .before .before .before .before .before .before .pre in
-    (pre .0, (λ i h. pre .1 i, λ code. blank 1025 code))
+    let pre = c .before .before .before .before .before .pre in
+    (pre .0, (pre .1 .1, λ code. blank 1025 code))
 
 slice-aggregate-look-up : tie.Need-slice-aggregate-look-up
 slice-aggregate-look-up c = search needs
@@ -30,12 +30,12 @@ same-length c = search needs
 
 returns : tie.Need-returns
 returns c =
-    let start = c .before .before .before .before .before .before .before .before .before .before .before .before .before in
+    let start = c .before .before .before .before .before .before .before .before .before .before .before .before in
     let a = start .args in
     let counted = c .before .before .before .before .before .before .count-codes .ensures in (
-      counted 0 (omega arith),
-      λ i h. c .before .before .look-up .ensures i h
-          ∙ counted _ (named-below (a .codes .now) (omega arith) (start .pre .1) (getD (a .places .now) i 0)),
+      λ rows band. counted rows band 0 (omega arith),
+      λ rows band i h l. c .before .before .look-up .ensures i h l
+          ∙ counted rows band _ (named-below (a .codes .now) (omega arith) (start .pre .1 .1) (getD (a .places .now) i 0)),
     )
 
 pub count-keys-spec : {M : Type 1} → statement M

@@ -1,7 +1,7 @@
 -- `call::gathered::gather` meets its contract. The loop's invariant: the numbers so far stand at the front, and those left go after them
--- (`Gathering`), whatever the other columns hold of which the floats are the numbers. The measure is how many cells are left.
--- Assumes nothing.
-use Prim.Native.Nat.{ℕ, _-_, _≤_}
+-- (`Gathering`), whatever the rows whose band it is and the other columns hold, of which the floats are the numbers. The measure is how
+-- many cells of the band are left. Assumes nothing.
+use Prim.Native.Nat.{ℕ, _+_, _-_, _≤_}
 use native.Mathlib.Omega.{arith}
 use mathlib.Core.Path.{_≡_, refl, _∙_}
 use mathlib.Core.Bool.{_&&_}
@@ -9,32 +9,28 @@ use mathlib.Core.List.{List}
 use lib.Ieee.{nan, eq}
 use lib.ListN.{length, getD, length-set}
 use borrow.Author.Needs.{needs}
-use Rattle.model.specs.Sheet.{inRange}
-use Rattle.cells.specs.Columns.{columns, coordinateAt}
+use Rattle.cells.specs.Columns.{columns}
+use Rattle.hits.specs.Hits.{columnIn}
+use Rattle.turns.specs.Bands.{BandOf}
 use Rattle.call.specs.Tables.{Numbered}
-use Rattle.call.proofs.Counting.{byte-few}
+use Rattle.ranges.proofs.Laws.{byte-few}
 use Rattle.call.proofs.Gathering.{Gathering, gathering-begun, gathering-turn, gathering-ended}
 use Rattle.call.proofs.gathered.gather.Statement.{statement}
 use Rattle.call.proofs.gathered.gather.Tie as tie
 
 abbrev Inv-loop : tie.InvT-loop
-Inv-loop range rows cols floats values₀ count₀ i₀ values count i =
-    (i ≤ length rows) × (count ≤ i) × (length values ≡ length values₀)
-    × ((kinds wraps nums ats lens : List ℕ) → Numbered (columns rows cols kinds wraps nums ats lens) floats
+Inv-loop range band cols floats values₀ count₀ i₀ values count i =
+    (band .from ≤ i) × (i ≤ band .to) × (count + band .from ≤ i) × (length values ≡ length values₀)
+    × ((rows kinds wraps nums ats lens : List ℕ) → BandOf range rows (band .from) (band .to)
+    → Numbered (columns rows cols kinds wraps nums ats lens) floats
     → Gathering range (columns rows cols kinds wraps nums ats lens) values count i)
 
 abbrev μ-loop : tie.MeasureT-loop
-μ-loop range rows cols floats values₀ count₀ i₀ values count i = length rows - i
+μ-loop range band cols floats values₀ count₀ i₀ values count i = band .to - i
 
 loop-holds : tie.Need-loop-holds Inv-loop μ-loop
 loop-holds c =
-    (omega arith, omega arith, refl, λ kinds wraps nums ats lens n. gathering-begun)
-
-mul-row : tie.Need-mul-row Inv-loop μ-loop
-mul-row c = search needs
-
-shared-slice-read-row : tie.Need-shared-slice-read-row Inv-loop μ-loop
-shared-slice-read-row c = search needs
+    (omega arith, omega arith, omega arith, refl, λ rows kinds wraps nums ats lens b n. gathering-begun _ b)
 
 mul-col : tie.Need-mul-col Inv-loop μ-loop
 mul-col c = search needs
@@ -58,13 +54,12 @@ cast-count : tie.Need-cast-count Inv-loop μ-loop
 cast-count c = search needs
 
 add-count : tie.Need-add-count Inv-loop μ-loop
-unfolding inRange
+unfolding columnIn
 add-count c =
-    let turn = c .before .before .before .before .before .before .before .before in
-    let a = turn .before .args in
-    let i = turn .loop .i in
-    let x = getD (a .floats .now) i nan in
-    omega (arith, byte-few (inRange (a .range) (coordinateAt (a .rows .now) (a .cols .now) i) && eq x x))
+    let l = c .before .before .before .before .before .before .loop in
+    let a = c .before .before .before .before .before .before .before .args in
+    let x = getD (a .floats .now) (l .i) nan in
+    omega (arith, byte-few (columnIn (a .range) (getD (a .cols .now) (l .i) 0) && eq x x))
 
 add-i : tie.Need-add-i Inv-loop μ-loop
 add-i c = search needs
@@ -73,18 +68,18 @@ loop-less : tie.Need-loop-less Inv-loop μ-loop
 loop-less c = search needs
 
 loop-again : tie.Need-loop-again Inv-loop μ-loop
-unfolding inRange
+unfolding columnIn
 loop-again c =
-    let turn = c .before .before .before .before .before .before .before .before in
-    let a = turn .before .args in
-    let i = turn .loop .i in
-    let x = getD (a .floats .now) i nan in (
+    let l = c .before .before .before .before .before .before .loop in
+    let a = c .before .before .before .before .before .before .before .args in
+    let x = getD (a .floats .now) (l .i) nan in (
       omega arith,
-      omega (arith, byte-few (inRange (a .range) (coordinateAt (a .rows .now) (a .cols .now) i) && eq x x)),
-      length-set (turn .loop .values) (turn .loop .count) x ∙ turn .loop .inv .2,
-      λ kinds wraps nums ats lens n.
-          gathering-turn (a .range) (columns (a .rows .now) (a .cols .now) kinds wraps nums ats lens) (a .floats .now) n i (omega arith)
-          (turn .loop .inv .3 kinds wraps nums ats lens n) (omega arith),
+      omega arith,
+      omega (arith, byte-few (columnIn (a .range) (getD (a .cols .now) (l .i) 0) && eq x x)),
+      length-set (l .values) (l .count) x ∙ l .inv .3,
+      λ rows kinds wraps nums ats lens b n.
+          gathering-turn (columns rows (a .cols .now) kinds wraps nums ats lens) b (a .floats .now) n (l .i) (omega arith) (omega arith)
+          (l .inv .4 rows kinds wraps nums ats lens b n) (omega arith),
     )
 
 same-length : tie.Need-same-length Inv-loop μ-loop
@@ -92,9 +87,9 @@ same-length c = search needs
 
 returns : tie.Need-returns Inv-loop μ-loop
 returns c =
-    let l = c .before .loop in (
+    let l = c .before .before .loop in (
       omega arith,
-      λ kinds wraps nums ats lens n. gathering-ended (l .inv .3 kinds wraps nums ats lens n) (omega arith),
+      λ rows kinds wraps nums ats lens b n. gathering-ended _ b (l .inv .4 rows kinds wraps nums ats lens b n) (omega arith),
     )
 
 pub gather-spec : {M : Type 1} → statement M
@@ -104,8 +99,6 @@ gather-spec =
     Inv-loop
     μ-loop
     loop-holds
-    mul-row
-    shared-slice-read-row
     mul-col
     shared-slice-read-col
     mul-x

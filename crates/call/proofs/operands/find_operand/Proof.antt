@@ -1,9 +1,10 @@
 -- `call::operands::find_operand` meets its contract: a reference, or a column of one number. 0 / 0 is not-a-number. Assumes nothing.
 use mathlib.Core.Path.{ap, _∙_}
-use native.Mathlib.Omega.{arith}
+use denote.Ref.{now}
 use lib.Ieee.{div, ofBits}
 use borrow.Author.Needs.{needs}
 use Rattle.hits.specs.Said.{asFloat}
+use Rattle.turns.proofs.Bands.{in-range-band}
 use Rattle.call.proofs.Meaning.{read-as-literal, read-as-unread}
 use Rattle.call.proofs.operands.find_operand.Statement.{statement}
 use Rattle.call.proofs.operands.find_operand.Tie as tie
@@ -36,34 +37,35 @@ same-length : tie.Need-same-length
 same-length c = search needs
 
 returns : tie.Need-returns
-returns c kinds wraps nums ats lens numbered same i h m =
+returns c kinds wraps nums ats lens numbered valued i h m =
     let filled = c .before .before in
     let reading = filled .before .before in
     let known = reading .before .before .before in
-    let start = known .before .before .before .before .before .before .before .before .before in
+    let start = known .before .before .before .before .before .before .before .before .before .before in
+    let band = in-range-band (start .pre .1 .0) (now (start .args .region-cols)) i h m in
     rw (known .operand .given .1)
     (read-as-literal _ _ _ _
-    (filled .fill .ensures i (omega (arith, h, start .pre .2)) ∙ filled .before .float-of .ensures
-    ∙ ap asFloat (reading .finite-reading .ensures)))
+    (filled .fill .ensures i (band .0) (band .1) ∙ filled .before .float-of .ensures ∙ ap asFloat (reading .finite-reading .ensures)))
 
 same-length-2 : tie.Need-same-length-2
 same-length-2 c = search needs
 
 returns-2 : tie.Need-returns-2
-returns-2 c kinds wraps nums ats lens numbered same =
+returns-2 c kinds wraps nums ats lens numbered valued =
     let found = c .before .before in
-    rw (found .before .before .before .operand2 .given .1) (found .find-reference .ensures kinds wraps nums ats lens numbered same)
+    rw (found .before .before .before .operand2 .given .1) (found .find-reference .ensures kinds wraps nums ats lens numbered valued)
 
 same-length-3 : tie.Need-same-length-3
 same-length-3 c = search needs
 
 returns-3 : tie.Need-returns-3
 unfolding div ofBits
-returns-3 c kinds wraps nums ats lens numbered same i h m =
+returns-3 c kinds wraps nums ats lens numbered valued i h m =
     let filled = c .before .before in
     let told = filled .before .before in
-    let start = told .before .before .before .before .before .before .before .before .before in
-    rw (told .enum-told .given .1) (read-as-unread _ _ _ (filled .fill2 .ensures i (omega (arith, h, start .pre .2))))
+    let start = told .before .before .before .before .before .before .before .before .before .before in
+    let band = in-range-band (start .pre .1 .0) (now (start .args .region-cols)) i h m in
+    rw (told .enum-told .given .1) (read-as-unread _ _ _ (filled .fill2 .ensures i (band .0) (band .1)))
 
 pub find-operand-spec : {M : Type 1} → statement M
 find-operand-spec =

@@ -15,8 +15,8 @@ by-literals-requires c κs = search needs
 returns : tie.Need-returns
 returns c =
     let by = sym (c .before .by-literals .ensures) ∙ c .if1 .taken in (
-      λ kinds wraps nums ats lens values founds numbered same takes i h m. rw by (first-literal _ _ _ _ by),
-      λ kinds wraps nums ats lens values founds numbered same takes i h m. rw by (second-literal _ _ _ _ by takes),
+      λ kinds wraps nums ats lens others founds numbered valued takes i h m. rw by (first-literal _ _ _ _ by),
+      λ kinds wraps nums ats lens others founds numbered valued takes i h m. rw by (second-literal _ _ _ _ by takes),
     )
 
 enum-known-test : tie.Need-enum-known-test
@@ -29,7 +29,10 @@ uses-second-requires : tie.Need-uses-second-requires
 uses-second-requires c κs = search needs
 
 find-operand-requires-2 : tie.Need-find-operand-requires-2
-find-operand-requires-2 c κs = search needs
+find-operand-requires-2 c κs =
+    let known = c .before .before .before .before .before .before .before .before .before .before in
+    let given = known .before .before .before .before .before .before .before .before .before .before .before .pre in
+    (given .0, (given .1 .0, given .1 .1, given .1 .2, given .1 .4))
 
 enum-known-test-2 : tie.Need-enum-known-test-2
 enum-known-test-2 c = search needs
@@ -38,7 +41,10 @@ find-operand-requires-3 : tie.Need-find-operand-requires-3
 find-operand-requires-3 c κs = search needs
 
 find-operand-requires-4 : tie.Need-find-operand-requires-4
-find-operand-requires-4 c κs = search needs
+find-operand-requires-4 c κs =
+    let known = c .before .before .before .before .before .before .before .before in
+    let given = known .before .before .before .before .before .before .before .before .before .before .before .pre in
+    (given .0, (given .1 .0, given .1 .1, given .1 .2, given .1 .4))
 
 same-length : tie.Need-same-length
 same-length c = search needs
@@ -53,10 +59,10 @@ returns-2 c =
     let first = second .before .before .before .before .before .before in
     let known = first .before .before .before in
     let by = sym (known .before .before .before .by-literals .ensures) ∙ known .before .before .if1 .left in (
-      λ kinds wraps nums ats lens values founds numbered same takes i h m.
-          rw (by, known .test .given .1) (first .find-operand .ensures kinds wraps nums ats lens numbered same i h m),
-      λ kinds wraps nums ats lens values founds numbered same takes i h m.
-          rw (by, known .test .given .1) (second .find-operand2 .ensures kinds wraps nums ats lens numbered same i h m),
+      λ kinds wraps nums ats lens others founds numbered valued takes i h m.
+          rw (by, known .test .given .1) (first .find-operand .ensures kinds wraps nums ats lens numbered valued i h m),
+      λ kinds wraps nums ats lens others founds numbered valued takes i h m.
+          rw (by, known .test .given .1) (second .find-operand2 .ensures kinds wraps nums ats lens numbered valued i h m),
     )
 
 same-length-3 : tie.Need-same-length-3
@@ -68,9 +74,9 @@ returns-3 c =
     let first = c .before .before .before .before in
     let known = first .before .before .before in
     let by = sym (known .before .before .before .by-literals .ensures) ∙ known .before .before .if1 .left in (
-      λ kinds wraps nums ats lens values founds numbered same takes i h m.
-          rw (by, known .test .given .1) (first .find-operand .ensures kinds wraps nums ats lens numbered same i h m),
-      λ kinds wraps nums ats lens values founds numbered same takes i h m.
+      λ kinds wraps nums ats lens others founds numbered valued takes i h m.
+          rw (by, known .test .given .1) (first .find-operand .ensures kinds wraps nums ats lens numbered valued i h m),
+      λ kinds wraps nums ats lens others founds numbered valued takes i h m.
           absurd (true≢false (sym (rw (known .test .given .1) at takes) ∙ sym (c .before .uses-second .ensures) ∙ c .if2 .left)),
     )
 
@@ -87,17 +93,17 @@ returns-4 c =
     let first = second .before .before .before .before in
     let known = first .before .before .before in
     let by = sym (known .before .before .before .by-literals .ensures) ∙ known .before .before .if1 .left in (
-      λ kinds wraps nums ats lens values founds numbered same takes i h m.
-          rw (by, known .test2 .given .1) (first .find-operand3 .ensures kinds wraps nums ats lens numbered same i h m),
-      λ kinds wraps nums ats lens values founds numbered same takes i h m.
-          rw (by, known .test2 .given .1) (second .find-operand4 .ensures kinds wraps nums ats lens numbered same i h m),
+      λ kinds wraps nums ats lens others founds numbered valued takes i h m.
+          rw (by, known .test2 .given .1) (first .find-operand3 .ensures kinds wraps nums ats lens numbered valued i h m),
+      λ kinds wraps nums ats lens others founds numbered valued takes i h m.
+          rw (by, known .test2 .given .1) (second .find-operand4 .ensures kinds wraps nums ats lens numbered valued i h m),
     )
 
 returns-5 : tie.Need-returns-5
 returns-5 c =
     let none = takes-none _ (c .match .keys3) in (
-      λ kinds wraps nums ats lens values founds numbered same takes. absurd (true≢false (sym takes ∙ none .0)),
-      λ kinds wraps nums ats lens values founds numbered same takes. absurd (true≢false (sym takes ∙ none .1)),
+      λ kinds wraps nums ats lens others founds numbered valued takes. absurd (true≢false (sym takes ∙ none .0)),
+      λ kinds wraps nums ats lens others founds numbered valued takes. absurd (true≢false (sym takes ∙ none .1)),
     )
 
 pub find-operands-spec : {M : Type 1} → statement M

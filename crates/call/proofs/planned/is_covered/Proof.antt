@@ -8,11 +8,10 @@ use Rattle.call.proofs.planned.is_covered.Statement.{statement}
 use Rattle.call.proofs.planned.is_covered.Tie as tie
 
 returns : tie.Need-returns
-returns c kinds wraps nums ats lens codes pool regions name up coded e =
-    let start = c .before .before .before in
-    let a = start .args in
-    uncovered (columns (a .rows .now) (a .cols .now) kinds wraps nums ats lens) (start .pre .0) pool codes coded (start .pre .1) (a .range)
-    up regions name (λ z. c .if1 .taken (e ∙ z))
+returns c rows kinds wraps nums ats lens codes pool regions name up banded coded e =
+    let a = c .before .before .args in
+    uncovered (columns rows (a .cols .now) kinds wraps nums ats lens) (banded .rise) pool codes coded (banded .few) (a .range) up
+    regions name (λ z. c .if1 .taken (e ∙ z))
 
 cells-in-requires : tie.Need-cells-in-requires
 cells-in-requires c κs = search needs
@@ -21,12 +20,11 @@ area-requires : tie.Need-area-requires
 area-requires c κs = search needs
 
 returns-2 : tie.Need-returns-2
-returns-2 c kinds wraps nums ats lens codes pool regions name up coded e =
-    let start = c .before .before .before .before .before in
-    let a = start .args in
-    ap₂ eqb (c .before .cells-in .ensures kinds wraps nums ats lens) (c .area .ensures)
-    ∙ covered-by-count (columns (a .rows .now) (a .cols .now) kinds wraps nums ats lens) (start .pre .0) pool codes coded (start .pre .1)
-    (a .range) up regions name (sym e ∙ c .before .before .if1 .left)
+returns-2 c rows kinds wraps nums ats lens codes pool regions name up banded coded e =
+    let a = c .before .before .before .before .args in
+    ap₂ eqb (c .before .cells-in .ensures rows kinds wraps nums ats lens (banded .band)) (c .area .ensures)
+    ∙ covered-by-count (columns rows (a .cols .now) kinds wraps nums ats lens) (banded .rise) pool codes coded (banded .few) (a .range) up
+    regions name (sym e ∙ c .before .before .if1 .left)
 
 pub is-covered-spec : {M : Type 1} → statement M
 is-covered-spec = tie.close (tie.spec returns cells-in-requires area-requires returns-2)

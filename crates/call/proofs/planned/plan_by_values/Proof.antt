@@ -1,10 +1,43 @@
--- `call::planned::plan_by_values` meets its contract: the front of the slice that is lent on holds the values. Assumes nothing.
+-- `call::planned::plan_by_values` meets its contract: a plan by the band's floats, which are the values, or one by the front of the slice
+-- that is lent on, which holds them. Assumes nothing.
 use mathlib.Core.Path.{sym, ap, _∙_}
 use lib.Seq.{length-take-le}
 use borrow.Author.Needs.{needs}
 use Rattle.plans.specs.Plans.{planOfValues}
+use Rattle.plans.proofs.AnyOrder.{planned-is}
 use Rattle.call.proofs.planned.plan_by_values.Statement.{statement}
 use Rattle.call.proofs.planned.plan_by_values.Tie as tie
+
+all-numbers-requires : tie.Need-all-numbers-requires
+all-numbers-requires c κs = search needs
+
+mul-plan-of-numbers : tie.Need-mul-plan-of-numbers
+mul-plan-of-numbers c = search needs
+
+sub-plan-of-numbers : tie.Need-sub-plan-of-numbers
+sub-plan-of-numbers c = search needs
+
+part-plan-of-numbers-start : tie.Need-part-plan-of-numbers-start
+part-plan-of-numbers-start c = search needs
+
+part-plan-of-numbers-end : tie.Need-part-plan-of-numbers-end
+part-plan-of-numbers-end c = search needs
+
+plan-of-numbers-requires : tie.Need-plan-of-numbers-requires
+plan-of-numbers-requires c κs = search needs
+
+enum-known-plan : tie.Need-enum-known-plan
+enum-known-plan c = search needs
+
+returns : tie.Need-returns
+returns c rows kinds wraps nums ats lens band numbered =
+    let told = c .before .before .before in
+    let taken = told .before .before in
+    let all = taken .before .all-numbers .ensures rows kinds wraps nums ats lens band numbered (taken .if1 .taken) in
+    planned-is _ _ _ (sym (c .before .plan .given .1) ∙ told .plan-of-numbers .ensures) ∙ ap (planOfValues _) all
+
+enum-told : tie.Need-enum-told
+enum-told c = search needs
 
 gather-requires : tie.Need-gather-requires
 gather-requires c κs = search needs
@@ -22,18 +55,28 @@ plan-of-values-requires c κs = search needs
 same-length : tie.Need-same-length
 same-length c = search needs
 
-returns : tie.Need-returns
-returns c kinds wraps nums ats lens numbered =
+returns-2 : tie.Need-returns-2
+returns-2 c rows kinds wraps nums ats lens band numbered =
     c .before .before .plan-of-values .ensures .0
-    ∙ ap (planOfValues _) (c .before .before .before .before .before .before .gather .ensures .1 kinds wraps nums ats lens numbered)
+    ∙ ap (planOfValues _)
+    (c .before .before .before .before .before .before .gather .ensures .1 rows kinds wraps nums ats lens band numbered)
 
 pub plan-by-values-spec : {M : Type 1} → statement M
 plan-by-values-spec =
     tie.close
     (tie.spec
+    all-numbers-requires
+    mul-plan-of-numbers
+    sub-plan-of-numbers
+    part-plan-of-numbers-start
+    part-plan-of-numbers-end
+    plan-of-numbers-requires
+    enum-known-plan
+    returns
+    enum-told
     gather-requires
     slice-relend-prefix-plan-of-values
     slice-aggregate-plan-of-values
     plan-of-values-requires
     same-length
-    returns)
+    returns-2)

@@ -1,6 +1,5 @@
 -- `call::planned::plan_of_duplicates` meets its contract: a range beyond the grid, one that is not covered, one that is. In the last the
 -- count of a region's code is that of its key. Assumes nothing.
-use native.Mathlib.Omega.{arith}
 use mathlib.Core.Path.{sym, ap, _∙_}
 use mathlib.Core.List.{[]}
 use lib.ListN.{length}
@@ -9,6 +8,7 @@ use borrow.Author.Needs.{needs}
 use Rattle.model.specs.declared.Span.{Span}
 use Rattle.model.specs.Rule.{planOf}
 use Rattle.cells.specs.Columns.{columns, coordinateAt}
+use Rattle.turns.proofs.Bands.{in-range-band}
 use Rattle.call.specs.Tables.{codeNamed, codedFrom}
 use Rattle.call.proofs.Parting.{untested}
 use Rattle.call.proofs.Covering.{code-found}
@@ -21,8 +21,9 @@ within-grid-requires c κs = search needs
 returns : tie.Need-returns
 unfolding planOf
 returns c = (
-  λ kinds wraps nums ats lens pool regions name up coded. rw (sym (c .before .within-grid .ensures) ∙ not-true _ (c .if1 .taken)),
-  λ kinds wraps nums ats lens pool rows cols test up coded followed room tested. absurd (untested test tested),
+  λ rows kinds wraps nums ats lens pool regions name up banded coded.
+      rw (sym (c .before .within-grid .ensures) ∙ not-true _ (c .if1 .taken)),
+  λ rows kinds wraps nums ats lens pool regionRows regionCols test up banded band coded followed tested. absurd (untested test tested),
 )
 
 count-keys-requires : tie.Need-count-keys-requires
@@ -37,13 +38,15 @@ same-length c = search needs
 returns-2 : tie.Need-returns-2
 unfolding planOf
 returns-2 c =
+    let covered = c .before .is-covered .ensures in
     let keyless = c .before .before .before .before .count-keys .ensures .0 in
     let within = c .before .before .before .before .before .before in (
-      λ kinds wraps nums ats lens pool regions name up coded. rw (
+      λ rows kinds wraps nums ats lens pool regions name up banded coded. rw (
         sym (within .before .within-grid .ensures) ∙ not-false _ (within .if1 .left),
-        sym (c .before .is-covered .ensures kinds wraps nums ats lens _ pool regions name up coded keyless) ∙ not-true _ (c .if2 .taken),
+        sym (covered rows kinds wraps nums ats lens _ pool regions name up banded coded (keyless rows (banded .band)))
+            ∙ not-true _ (c .if2 .taken),
       ),
-      λ kinds wraps nums ats lens pool rows cols test up coded followed room tested. absurd (untested test tested),
+      λ rows kinds wraps nums ats lens pool regionRows regionCols test up banded band coded followed tested. absurd (untested test tested),
     )
 
 same-length-2 : tie.Need-same-length-2
@@ -52,24 +55,25 @@ same-length-2 c = search needs
 returns-3 : tie.Need-returns-3
 unfolding planOf
 returns-3 c =
+    let covered = c .before .is-covered .ensures in
     let counted = c .before .before .before .before .count-keys .ensures in
     let within = c .before .before .before .before .before .before in
-    let start = within .before .before .before .before .before .before .before in
-    let a = start .args in (
-      λ kinds wraps nums ats lens pool regions name up coded. rw (
+    let a = within .before .before .before .before .before .before .args in (
+      λ rows kinds wraps nums ats lens pool regions name up banded coded. rw (
         sym (within .before .within-grid .ensures) ∙ not-false _ (within .if1 .left),
-        sym (c .before .is-covered .ensures kinds wraps nums ats lens _ pool regions name up coded (counted .0))
+        sym (covered rows kinds wraps nums ats lens _ pool regions name up banded coded (counted .0 rows (banded .band)))
             ∙ not-false _ (c .if2 .left),
       ),
-      λ kinds wraps nums ats lens pool rows cols test up coded followed room tested i h e.
+      λ rows kinds wraps nums ats lens pool regionRows regionCols test up banded band coded followed tested i h e.
           let name : Span = record { at = 0; len = 0 } in
-          let full = sym (c .before .is-covered .ensures kinds wraps nums ats lens _ pool [] name up coded (counted .0))
+          let full = sym (covered rows kinds wraps nums ats lens _ pool [] name up banded coded (counted .0 rows (banded .band)))
           ∙ not-false _ (c .if2 .left) in
-          counted .1 i (omega arith)
-          ∙ ap (λ entry. codedFrom (a .range) (a .rows .now) (a .cols .now) (a .codes .now) (codeNamed (a .codes .now) entry) 0
-          (length (a .rows .now))) (followed i h)
-          ∙ code-found (columns (a .rows .now) (a .cols .now) kinds wraps nums ats lens) (start .pre .0 .0) pool (a .codes .now) coded
-          (start .pre .0 .1) (a .range) up [] name full (coordinateAt rows cols i) e,
+          let inside = in-range-band band regionCols i h e in
+          counted .1 rows (banded .band) i (inside .0) (inside .1)
+          ∙ ap (λ entry. codedFrom (a .range) rows (a .cols .now) (a .codes .now) (codeNamed (a .codes .now) entry) 0
+          (length rows)) (followed i h)
+          ∙ code-found (columns rows (a .cols .now) kinds wraps nums ats lens) (banded .rise) pool (a .codes .now) coded
+          (banded .few) (a .range) up [] name full (coordinateAt regionRows regionCols i) e,
     )
 
 pub plan-of-duplicates-spec : {M : Type 1} → statement M

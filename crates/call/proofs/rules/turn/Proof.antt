@@ -11,7 +11,7 @@ use Rattle.hits.specs.Hits.{known}
 use Rattle.hits.proofs.Finding.{Fitting, fitting}
 use Rattle.turns.specs.Emit.{markColumns, barColumns}
 use Rattle.turns.specs.Turns.{stateOf, indexed}
-use Rattle.call.proofs.Turning.{front-below, turn-decided}
+use Rattle.call.proofs.Turning.{front-below, flags-kept, turn-decided}
 use Rattle.call.proofs.rules.turn.Statement.{statement}
 use Rattle.call.proofs.rules.turn.Tie as tie
 
@@ -47,15 +47,16 @@ said c = said-before (painted-before (put c))
 
 -- the table of hits
 abbrev hits : tie.After-decide → List ℕ
-hits c = c .decide .last .1 .1 .1 .1 .1 .1 .1 .1 .1 .1 .1 .1 .1 .1 .1 .1 .1 .0
+hits c = c .decide .last .1 .1 .1 .1 .1 .1 .1 .1 .1 .1 .1 .1 .1 .1 .1 .1 .1 .1 .0
 
 fit : (c : tie.After-decide) → let a = entered c .args in
-    Fitting (length (a .region-rows .now)) (known (a .values .now) (a .firsts .now) (a .seconds .now) (a .founds .now))
+    Fitting 0 (length (a .region-rows .now)) (known (a .values .now) (a .firsts .now) (a .seconds .now) (a .founds .now))
     (a .region-cols .now) (a .flags .now) (length (a .hits .now))
-fit c = fitting _ _ _ _ _ (entered c .pre .1 .1 .1)
+fit c = fitting _ _ _ _ _ _ (entered c .pre .1 .1 .1 .1)
 
 short : (c : tie.After-decide) → c .decide .result .count ≤ length (hits c)
-short c = omega (arith, c .decide .ensures .1 .0 .0, fit c .within, c .decide .kept .1 .1 .1 .1 .1 .1 .1 .1 .1 .1 .1 .1 .1 .1 .1 .1 .1 .0)
+short c =
+    omega (arith, c .decide .ensures .1 .0 .0, fit c .within, c .decide .kept .1 .1 .1 .1 .1 .1 .1 .1 .1 .1 .1 .1 .1 .1 .1 .1 .1 .1 .0)
 
 few : (c : tie.After-decide) → c .decide .result .count ≤ 1024
 few c = omega (arith, c .decide .ensures .1 .0 .0, fit c .few)
@@ -85,35 +86,35 @@ put-marks-requires c κs = below (said-before (c .before .before .before .before
 draw-bars-requires : tie.Need-draw-bars-requires
 draw-bars-requires c κs = below (said-before (painted-before (put-before c)))
 
-cast-t64 : tie.Need-cast-t64
-cast-t64 c = omega (arith, few (said-before (painted-before (put-before (c .before .before .before .before .before .before)))))
-
-add-t65 : tie.Need-add-t65
-add-t65 c =
-    let s = said-before (painted-before (put-before (c .before .before .before .before .before .before .before))) in
-    omega (arith, few s, entered s .pre .0 .0)
+cast-t65 : tie.Need-cast-t65
+cast-t65 c = omega (arith, few (said-before (painted-before (put-before (c .before .before .before .before .before .before)))))
 
 add-t66 : tie.Need-add-t66
 add-t66 c =
-    let s = said-before (painted-before (put-before (c .before .before .before .before .before .before .before .before .before))) in
-    omega (arith, s .decide .ensures .1 .0 .1, entered s .pre .0 .1)
+    let s = said-before (painted-before (put-before (c .before .before .before .before .before .before .before))) in
+    omega (arith, few s, entered s .pre .0 .0)
 
 add-t67 : tie.Need-add-t67
 add-t67 c =
+    let s = said-before (painted-before (put-before (c .before .before .before .before .before .before .before .before .before))) in
+    omega (arith, s .decide .ensures .1 .0 .1, entered s .pre .0 .1)
+
+add-t68 : tie.Need-add-t68
+add-t68 c =
     let s = said c in
     omega (arith, s .decide .ensures .1 .0 .2, entered s .pre .0 .2)
 
 same-length : tie.Need-same-length
-same-length c = said c .decide .kept .1 .1 .1 .1 .1 .1 .1 .1 .1 .1 .1 .1 .1 .1 .0
+same-length c = said c .decide .kept .1 .1 .1 .1 .1 .1 .1 .1 .1 .1 .1 .1 .1 .1 .1 .0
 
 same-length-2 : tie.Need-same-length-2
-same-length-2 c = said c .decide .kept .1 .1 .1 .1 .1 .1 .1 .1 .1 .1 .1 .1 .1 .1 .1 .0
+same-length-2 c = said c .decide .kept .1 .1 .1 .1 .1 .1 .1 .1 .1 .1 .1 .1 .1 .1 .1 .1 .0
 
 same-length-3 : tie.Need-same-length-3
-same-length-3 c = said c .decide .kept .1 .1 .1 .1 .1 .1 .1 .1 .1 .1 .1 .1 .1 .1 .1 .1 .0
+same-length-3 c = said c .decide .kept .1 .1 .1 .1 .1 .1 .1 .1 .1 .1 .1 .1 .1 .1 .1 .1 .1 .0
 
 same-length-4 : tie.Need-same-length-4
-same-length-4 c = said c .decide .kept .1 .1 .1 .1 .1 .1 .1 .1 .1 .1 .1 .1 .1 .1 .1 .1 .1 .0
+same-length-4 c = said c .decide .kept .1 .1 .1 .1 .1 .1 .1 .1 .1 .1 .1 .1 .1 .1 .1 .1 .1 .1 .0
 
 same-length-5 : tie.Need-same-length-5
 same-length-5 c = stopped c .stop-regions .kept .1 .1 .0
@@ -140,7 +141,7 @@ same-length-12 : tie.Need-same-length-12
 same-length-12 c = drawn c .draw-bars .kept .1 .1 .1 .1 .1 .0
 
 same-length-13 : tie.Need-same-length-13
-same-length-13 c = said c .decide .kept .1 .1 .1 .1 .1 .1 .1 .1 .1 .1 .1 .1 .1 .1 .1 .1 .1 .1 .0
+same-length-13 c = said c .decide .kept .1 .1 .1 .1 .1 .1 .1 .1 .1 .1 .1 .1 .1 .1 .1 .1 .1 .1 .1 .0
 
 returns : tie.Need-returns
 returns c =
@@ -152,7 +153,10 @@ returns c =
       λ kinds wraps nums ats lens tabled. turn-decided (indexed (a .index) (a .rule)) _ st (a .values .now) (hits s) (s .decide .result)
           (s .decide .ensures .0 kinds wraps nums ats lens tabled) _ _ _ (stopped c .stop-regions .ensures) (put c .put-marks .ensures)
           (drawn c .draw-bars .ensures),
-      (omega (arith, few s), omega (arith, once .1), omega (arith, once .2)),
+      (
+        flags-kept (a .rule .stop) (take (s .decide .result .count) (hits s)) (a .flags .now) _ (stopped c .stop-regions .ensures),
+        (omega (arith, few s), omega (arith, once .1), omega (arith, once .2)),
+      ),
     )
 
 pub turn-spec : {M : Type 1} → statement M
@@ -166,10 +170,10 @@ turn-spec =
     put-marks-requires
     (λ _ _. tt)
     draw-bars-requires
-    cast-t64
-    add-t65
+    cast-t65
     add-t66
     add-t67
+    add-t68
     same-length
     same-length-2
     same-length-3

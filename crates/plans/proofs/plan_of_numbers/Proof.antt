@@ -1,8 +1,8 @@
--- `plan_by` meets its contract: in each arm the kind is known, and the callee or the definition answers. Assumes nothing.
+-- `plan_of_numbers` meets its contract: in each arm the kind is known, and the callee or the definition answers. Assumes nothing.
 use borrow.Author.Needs.{needs}
-use Rattle.plans.specs.Plans.{planOfValues}
-use Rattle.plans.proofs.plan_by.Statement.{statement}
-use Rattle.plans.proofs.plan_by.Tie as tie
+use Rattle.plans.specs.Plans.{ordersValues, planOfValues, plannedOf}
+use Rattle.plans.proofs.plan_of_numbers.Statement.{statement}
+use Rattle.plans.proofs.plan_of_numbers.Tie as tie
 
 enum-told : tie.Need-enum-told
 enum-told c = search needs
@@ -16,8 +16,8 @@ color-scale2-requires c κs = search needs
 enum-known-kind-2 : tie.Need-enum-known-kind-2
 enum-known-kind-2 c = search needs
 
-color-scale3-requires : tie.Need-color-scale3-requires
-color-scale3-requires c κs = search needs
+color-scale3-of-requires : tie.Need-color-scale3-of-requires
+color-scale3-of-requires c κs = search needs
 
 enum-known-kind-3 : tie.Need-enum-known-kind-3
 enum-known-kind-3 c = search needs
@@ -44,61 +44,44 @@ enum-told-3 : tie.Need-enum-told-3
 enum-told-3 c = search needs
 
 returns : tie.Need-returns
-unfolding planOfValues
+unfolding ordersValues planOfValues plannedOf
 returns c = rw (c .enum-told .given .1)
 
-same-length : tie.Need-same-length
-same-length c = search needs
-
 returns-2 : tie.Need-returns-2
-unfolding planOfValues
-returns-2 c = rw (c .before .before .before .kind .given .1) (c .color-scale2 .ensures)
-
-same-length-2 : tie.Need-same-length-2
-same-length-2 c = search needs
+unfolding ordersValues planOfValues plannedOf
+returns-2 c = rw (c .before .before .kind .given .1, c .color-scale2 .ensures)
 
 returns-3 : tie.Need-returns-3
-unfolding planOfValues
-returns-3 c = rw (c .before .before .before .before .before .kind2 .given .1) (c .before .before .color-scale3 .ensures)
-
-same-length-3 : tie.Need-same-length-3
-same-length-3 c = search needs
+returns-3 c = rw (c .before .before .kind2 .given .1) (c .color-scale3-of .ensures)
 
 returns-4 : tie.Need-returns-4
-unfolding planOfValues
-returns-4 c = rw (c .before .before .before .kind3 .given .1) (c .data-bar .ensures)
-
-same-length-4 : tie.Need-same-length-4
-same-length-4 c = search needs
+unfolding ordersValues planOfValues plannedOf
+returns-4 c = rw (c .before .before .kind3 .given .1, c .data-bar .ensures)
 
 returns-5 : tie.Need-returns-5
-unfolding planOfValues
-returns-5 c = rw (c .before .before .before .before .before .kind4 .given .1) (c .before .before .top-bottom .ensures)
-
-same-length-5 : tie.Need-same-length-5
-same-length-5 c = search needs
+returns-5 c = rw (c .before .before .kind4 .given .1) (c .top-bottom .ensures)
 
 returns-6 : tie.Need-returns-6
-unfolding planOfValues
-returns-6 c = rw (c .before .before .before .kind5 .given .1) (c .above-average .ensures)
+unfolding ordersValues planOfValues plannedOf
+returns-6 c = rw (c .before .before .kind5 .given .1, c .above-average .ensures)
 
 returns-7 : tie.Need-returns-7
-unfolding planOfValues
+unfolding ordersValues planOfValues plannedOf
 returns-7 c = rw (c .enum-told2 .given .1)
 
 returns-8 : tie.Need-returns-8
-unfolding planOfValues
+unfolding ordersValues planOfValues plannedOf
 returns-8 c = rw (c .enum-told3 .given .1)
 
-pub plan-by-spec : {M : Type 1} → statement M
-plan-by-spec =
+pub plan-of-numbers-spec : {M : Type 1} → statement M
+plan-of-numbers-spec =
     tie.close
     (tie.spec
     enum-told
     enum-known-kind
     color-scale2-requires
     enum-known-kind-2
-    color-scale3-requires
+    color-scale3-of-requires
     enum-known-kind-3
     data-bar-requires
     enum-known-kind-4
@@ -108,15 +91,10 @@ plan-by-spec =
     enum-told-2
     enum-told-3
     returns
-    same-length
     returns-2
-    same-length-2
     returns-3
-    same-length-3
     returns-4
-    same-length-4
     returns-5
-    same-length-5
     returns-6
     returns-7
     returns-8)
