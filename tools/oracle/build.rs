@@ -87,6 +87,9 @@ fn link_library(out: &Path) -> Result<(), String> {
     } else {
         link(&exports, "exports");
     }
+    if std::env::var_os("CARGO_FEATURE_COLUMNS").is_some() {
+        link(&archive("WAVENDIRU_COLUMNS", "columnsbench")?, "columnsbench");
+    }
     link(&archive("WAVENDIRU_LIB", "saveexports")?, "saveexports");
     Ok(())
 }

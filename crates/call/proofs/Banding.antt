@@ -2,7 +2,7 @@
 -- in range are those from the band's begin up to its end whose columns are the range's: before it there is none, behind it none.
 -- Assumes nothing.
 use Prim.Native.Nat.{ℕ, zero, suc, _+_, _-_, _≤_, _<_}
-use native.Mathlib.Nat.{sub-zero, zero-add}
+use native.Mathlib.Nat.{add-zero, sub-zero, zero-add}
 use native.Mathlib.Numerals.{add-one}
 use native.Mathlib.Omega.{arith}
 use mathlib.Core.Path.{_≡_, refl, sym, ap, _∙_}
@@ -106,6 +106,16 @@ module _ {range : Range} (c : CellColumns) {from to : ℕ} (band : BandOf range 
   -- inside it the columns tell
   pub band-at : (i : ℕ) → from ≤ i → i < to → inRangeAt range c i ≡ columnIn range (getD (c .cols) i 0)
   band-at i a b = within-band band (c .cols) i a b
+
+  -- where the columns are not the range's none is
+  pub band-skips : (m i : ℕ) → from ≤ i → i + m ≤ to → ((k : ℕ) → i ≤ k → k < i + m → columnIn range (getD (c .cols) k 0) ≡ false)
+      → inRangeFrom range c i ≡ inRangeFrom range c (i + m)
+  band-skips zero i a b out = rw (add-zero i)
+  band-skips (suc m) i a b out =
+      let e : i + suc m ≡ i + 1 + m = omega arith in
+      rw e
+      (left-outside range c i (omega (arith, band .within)) (band-at i a (omega arith) ∙ out i (omega arith) (omega arith))
+      ∙ band-skips m (i + 1) (omega arith) (omega arith) (λ k p q. out k (omega arith) (omega arith)))
 
   -- ---- a count of them
 

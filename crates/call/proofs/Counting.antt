@@ -4,7 +4,7 @@ use Prim.Native.Nat.{ℕ, zero, suc, _+_, _-_, _≤_, _<_}
 use native.Mathlib.Nat.{add-zero, zero-add}
 use native.Mathlib.Omega.{arith}
 use mathlib.Core.Path.{_≡_, refl, sym, ap₂, _∙_}
-use mathlib.Core.Bool.{Bool, true, false, cond, _&&_, and-false, and-true, true≢false}
+use mathlib.Core.Bool.{Bool, true, false, cond, _&&_, true≢false}
 use mathlib.Core.List.{List}
 use mir.Val.{boolByte}
 use lib.Dec.{eqb}
@@ -91,36 +91,49 @@ module _ {range : Range} {from to : ℕ} {cols codes : List ℕ} where
         counted = λ rows band code h. none code ∙ sym (coded-before range rows cols codes code band);
       }
 
-  module _ {room : ℕ} {counts : List ℕ} {i : ℕ} (v : Counting range from to cols codes room counts i) (within : getD codes i 0 < room) where
-    abbrev here : ℕ
-    here = getD codes i 0
+  module _ {room : ℕ} {counts : List ℕ} {i : ℕ} (v : Counting range from to cols codes room counts i) where
+    -- a cell in range
+    module _ (within : getD codes i 0 < room) (inside : columnIn range (getD cols i 0) ≡ true) where
+      abbrev here : ℕ
+      here = getD codes i 0
 
-    abbrev inColumn : Bool
-    inColumn = columnIn range (getD cols i 0)
+      abbrev added : List ℕ
+      added = set counts here (getD counts here 0 + 1)
 
-    abbrev added : List ℕ
-    added = set counts here (getD counts here 0 + boolByte inColumn)
+      -- what is counted under a code with this cell
+      added-at : (code : ℕ) (same : Bool) → eqb here code ≡ same → getD added code 0 ≡ getD counts code 0 + cond same 1 0
+      added-at code true e =
+          let same : here ≡ code = eqb-true here code e in
+          rw (← same) (getD-set-same counts here _ 0 (omega (arith, within, v .long)))
+      added-at code false e =
+          rw add-zero (getD-set-other counts here code _ 0 (λ q. eqb-false here code e (sym q)))
 
-    -- what is counted under a code with this cell
-    added-at : (code : ℕ) (same : Bool) → eqb here code ≡ same → getD added code 0 ≡ getD counts code 0 + cond (inColumn && same) 1 0
-    added-at code true e =
-        let same : here ≡ code = eqb-true here code e in
-        rw (and-true, ← same)
-        (getD-set-same counts here _ 0 (omega (arith, within, v .long)) ∙ rw (byte-bit inColumn))
-    added-at code false e =
-        rw (and-false, add-zero) (getD-set-other counts here code _ 0 (λ q. eqb-false here code e (sym q)))
+      pub counting-turn : from ≤ i → i < to → Counting range from to cols codes room added (i + 1)
+      counting-turn a b =
+          record {
+            long = length-set counts here _ ∙ v .long;
+            few = λ code.
+                let bit = eqb here code in
+                omega (arith, added-at code bit refl, v .few code, byte-few bit, byte-bit bit);
+            counted = λ rows band code h.
+                added-at code (eqb here code) refl
+                ∙ ap₂ (λ n inside. n + cond (inside && eqb here code) 1 0) (v .counted rows band code h)
+                (sym (within-band band cols i a b ∙ inside))
+                ∙ sym (coded-more range rows cols codes code i);
+          }
 
-    pub counting-turn : from ≤ i → i < to → Counting range from to cols codes room added (i + 1)
-    counting-turn a b =
+    -- cells out of range
+    pub counting-skip : (j : ℕ) → from ≤ i → i ≤ j → j ≤ to
+        → ((k : ℕ) → i ≤ k → k < j → columnIn range (getD cols k 0) ≡ false) → Counting range from to cols codes room counts j
+    counting-skip j a b d out =
         record {
-          long = length-set counts here _ ∙ v .long;
-          few = λ code.
-              let bit = inColumn && eqb here code in
-              omega (arith, added-at code (eqb here code) refl, v .few code, byte-few bit, byte-bit bit);
+          long = v .long;
+          few = λ code. omega (arith, v .few code, b);
           counted = λ rows band code h.
-              added-at code (eqb here code) refl
-              ∙ ap₂ (λ n inside. n + cond (inside && eqb here code) 1 0) (v .counted rows band code h) (sym (within-band band cols i a b))
-              ∙ sym (coded-more range rows cols codes code i);
+              let all : i + (j - i) ≡ j = omega arith in
+              let none = coded-none range rows cols codes code i (j - i) (λ k p q e. absurd (true≢false (sym e
+              ∙ within-band band cols k (omega arith) (omega arith) ∙ out k p (omega arith)))) in
+              omega (arith, v .counted rows band code h, none, rw (all, zero-add) at (coded-append range rows cols codes code 0 i (j - i)));
         }
 
 -- ---- the code that an entry names

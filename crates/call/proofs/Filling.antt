@@ -1,12 +1,14 @@
 -- A table that is filled in, index by index, at the indices that a test wants. Assumes nothing.
-use Prim.Native.Nat.{ℕ, _+_, _<_}
+use Prim.Native.Nat.{ℕ, _+_, _≤_, _<_}
 use native.Mathlib.Omega.{arith}
 use mathlib.Core.Path.{_≡_, refl, sym, _∙_}
 use mathlib.Core.Bool.{Bool, true, false, true≢false}
 use mathlib.Core.List.{List}
+use lib.Dec.{ltb}
 use lib.ListN.{length, getD, set, length-set}
 use lib.Seq.{getD-set-same, getD-set-other}
 use borrow.Author.Count.{below-more}
+use borrow.Author.Tests.{ltb-true, ltb-false}
 
 module _ {A : Type 0} where
   -- up to i the table has the entry of each index that is wanted; past its end it has d
@@ -33,6 +35,14 @@ module _ {A : Type 0} where
             long = v .long;
             filled = below-more (λ k. wanted k ≡ true → getD table k d ≡ entry k) i (v .filled) (λ t. absurd (true≢false (sym t ∙ e)));
           }
+
+      -- the indices up to j are not wanted
+      pub filled-skip : (j : ℕ) → ((k : ℕ) → i ≤ k → k < j → wanted k ≡ false) → FilledIn d wanted entry first table j
+      filled-skip j e = record { long = v .long; filled = λ k h t. go k h t (ltb k i) refl }
+        where
+          go : (k : ℕ) → k < j → wanted k ≡ true → (x : Bool) → ltb k i ≡ x → getD table k d ≡ entry k
+          go k h t true l = v .filled k (ltb-true k i l) t
+          go k h t false l = absurd (true≢false (sym t ∙ e k (ltb-false k i l) h))
 
       pub filled-more : {x : A} → i < length table → x ≡ entry i → FilledIn d wanted entry first (set table i x) (i + 1)
       filled-more {x} h e =

@@ -24,7 +24,7 @@ use Rattle.hits.specs.Hits.{columnIn}
 use Rattle.turns.specs.Bands.{BandOf}
 use Rattle.turns.proofs.Known.{numeric-back}
 use Rattle.call.specs.Tables.{Numbered}
-use Rattle.call.proofs.Banding.{band-begins, band-ends, band-at}
+use Rattle.call.proofs.Banding.{band-begins, band-ends, band-at, band-skips}
 
 -- ---- one cell
 
@@ -73,18 +73,28 @@ module _ {range : Range} (c : CellColumns) {from to : ℕ} (band : BandOf range 
   unfolding numbers
   gathering-ended v e = rw (e, band-ends c band, append-nil) at (v .left)
 
-  module _ (floats : List Float) (numbered : Numbered c floats) (i : ℕ) (a : from ≤ i) (b : i < to) where
+  -- a cell in range
+  module _ (floats : List Float) (numbered : Numbered c floats) (i : ℕ) (a : from ≤ i) (b : i < to)
+      (inside : columnIn range (getD (c .cols) i 0) ≡ true) where
     pub gathering-turn : {values : List Float} {count : ℕ} → Gathering range c values count i → count < length values
-        → Gathering range c (set values count (getD floats i nan))
-        (count + boolByte (columnIn range (getD (c .cols) i 0) && eq (getD floats i nan) (getD floats i nan))) (i + 1)
+        → Gathering range c (set values count (getD floats i nan)) (count + boolByte (eq (getD floats i nan) (getD floats i nan))) (i + 1)
     gathering-turn {values} {count} v l =
         let x = getD floats i nan in
         record {
-          left = stored values count x (numbers (inRangeFrom range c (i + 1))) (columnIn range (getD (c .cols) i 0) && eq x x) l
+          left = stored values count x (numbers (inRangeFrom range c (i + 1))) (eq x x) l
               ∙ ap (λ later. take count values ++ later)
-              (sym (here-first range c floats numbered i (omega (arith, band .within)) _ (band-at c band i a b)))
+              (sym (here-first range c floats numbered i (omega (arith, band .within)) true (band-at c band i a b ∙ inside)))
               ∙ v .left;
         }
+
+  -- cells out of range
+  pub gathering-skip : (i j : ℕ) → from ≤ i → i ≤ j → j ≤ to
+      → ((k : ℕ) → i ≤ k → k < j → columnIn range (getD (c .cols) k 0) ≡ false)
+      → {values : List Float} {count : ℕ} → Gathering range c values count i → Gathering range c values count j
+  gathering-skip i j a b d out v =
+      let e : i + (j - i) ≡ j = omega arith in
+      let skips = band-skips c band (j - i) i a (omega arith) (λ k p q. out k p (omega arith)) in
+      record { left = rw (skips, e) at (v .left) }
 
 -- ---- floats that are numbers
 

@@ -1,5 +1,6 @@
 pub mod Seeking
 pub mod Banding
+pub mod Jumping
 pub mod Filling
 pub mod Tables
 pub mod Meaning
@@ -15,5 +16,8 @@ pub mod Drawing
 pub mod Painting
 pub mod Turning
 pub mod Rulewise
+pub mod Picking
+pub mod Listing
 pub mod Deciding
 pub mod Tabling
+pub mod Scaling

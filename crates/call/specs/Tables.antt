@@ -3,7 +3,7 @@
 use Prim.Native.Nat.{ℕ, zero, suc, _+_, _≤_, _<_, min}
 use mathlib.Core.Path.{_≡_}
 use mathlib.Core.Bool.{Bool, true, cond, not, _&&_, _||_}
-use mathlib.Core.List.{List}
+use mathlib.Core.List.{List, [], _∷_}
 use mathlib.Core.Option.{none}
 use lib.Dec.{eqb}
 use lib.Ieee.{Float, nan}
@@ -22,7 +22,7 @@ use Rattle.model.specs.Rule.{cellsIn, keys, times}
 use Rattle.cells.specs.Columns.{cellsOf, coordinateAt, entryAt, sheetWith}
 use Rattle.keys.specs.Names.{keysHeld, namesOf}
 use Rattle.hits.specs.Said.{asFloat}
-use Rattle.hits.specs.Hits.{numberAt}
+use Rattle.hits.specs.Hits.{numberAt, columnIn}
 use Rattle.turns.specs.Step.{isDuplicates}
 use Rattle.turns.specs.Knowing.{InRange}
 use Rattle.turns.specs.Bands.{BandOf}
@@ -65,6 +65,13 @@ pub record Banded (range : Range) (c : CellColumns) (from to : ℕ) : Type 0 whe
   pub rise : firstFall (c .rows) (c .cols) ≡ none
   pub few : length (c .rows) ≤ 1024
   pub band : BandOf range (c .rows) from to
+
+-- the indices of the n regions from index i on whose column is the range's
+unfoldable pub insideFrom : Range → List ℕ → ℕ → ℕ → List ℕ
+insideFrom range cols i zero = []
+insideFrom range cols i (suc n) =
+    let later = insideFrom range cols (suc i) n in
+    cond (columnIn range (getD cols i 0)) (i ∷ later) later
 
 -- ---- codes of keys
 

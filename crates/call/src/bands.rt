@@ -1,12 +1,17 @@
-// The band of a rule's range among the cells or the regions, whose rows rise, and how many cells of it are in range.
+// The band of a rule's range among the cells or the regions, which rise, how many cells of it are in range, and the way from one that is
+// in range to the next.
 use crate::Band;
 use model::Range;
-ghost use Prim.Native.Nat.{ℕ, _<_, _≤_};
+ghost use Prim.Native.Nat.{ℕ, _+_, _<_, _≤_};
 ghost use mathlib.Core.Path.{_≡_};
+ghost use mathlib.Core.Bool.{true, false};
 ghost use mathlib.Core.List.{List};
+ghost use mathlib.Core.Option.{none};
 ghost use lib.ListN.{length, getD};
+ghost use Rattle.model.specs.Job.{firstFall};
 ghost use Rattle.model.specs.Rule.{cellsIn};
 ghost use Rattle.cells.specs.Columns.{columns, cellsOf};
+ghost use Rattle.hits.specs.Hits.{columnIn};
 ghost use Rattle.turns.specs.Bands.{RowsRise, BandOf};
 
 // The first index whose row is not above `row`, or the number of rows: what is left is halved.
@@ -56,4 +61,67 @@ pub(crate) fn cells_in(range: Range, band: Band, cols: &[u16]) -> usize
         i += 1;
     }
     count as usize
+}
+
+// Whether the `gap` places from one out of range are all out of range, told by the last of them: it stands in the same row on the same side
+// of the range's columns, or in the next row ahead of them.
+fn jumps(range: Range, rows: &[u32], cols: &[u16], i: usize, to: usize, gap: usize) -> bool
+    requires { ⌜ (firstFall (now rows) (now cols) ≡ none) × (i < to) × (to ≤ length (now rows)) × (length (now rows) ≤ length (now cols))
+        × (columnIn range (getD (now cols) i 0) ≡ false) ⌝ }
+    ensures { λ r. ⌜ (r ≡ true → (0 < gap) × (i + gap ≤ to)
+        × ((k : ℕ) → i ≤ k → k < i + gap → columnIn range (getD (now (cols .entry)) k 0) ≡ false)) ⌝ }
+{
+    if gap == 0 {
+        return false;
+    }
+    if gap > to - i {
+        return false;
+    }
+    let last = i + gap - 1;
+    let down = rows[last] - rows[i];
+    let past = range.right < cols[i];
+    let short = cols[last] < range.left;
+    ((down == 0) & (past | short)) | ((down == 1) & past & short)
+}
+
+// The next place of the band that is in range, or one ahead of it, after a place that is not: none between is. What stands `gap` places
+// on is tried first, since rows often have the same columns.
+pub(crate) fn next_in(
+    range: Range,
+    rows: &[u32],
+    cols: &[u16],
+    i: usize,
+    to: usize,
+    gap: usize,
+) -> usize
+    requires { ⌜ (firstFall (now rows) (now cols) ≡ none) × (i < to) × (to ≤ length (now rows)) × (length (now rows) ≤ length (now cols))
+        × (columnIn range (getD (now cols) i 0) ≡ false) ⌝ }
+    ensures { λ r. ⌜ (i < r) × (r ≤ to)
+        × ((k : ℕ) → i ≤ k → k < r → columnIn range (getD (now (cols .entry)) k 0) ≡ false) ⌝ }
+{
+    if jumps(range, rows, cols, i, to, gap) {
+        return i + gap;
+    }
+    let mut j = i + 1;
+    while j < to {
+        let col = cols[j];
+        if (range.left <= col) & (col <= range.right) {
+            return j;
+        }
+        j += 1;
+    }
+    j
+}
+
+// Whether most places of a band may be in range: it is short, or the first and the last of them are. Which is told decides the way that is
+// taken and no answer.
+pub(crate) fn is_wide(range: Range, band: Band, cols: &[u16]) -> bool
+    requires { ⌜ (band .from ≤ band .to) × (band .to ≤ length (now cols)) ⌝ }
+{
+    let from = band.from;
+    let to = band.to;
+    if to - from < 128 {
+        return true;
+    }
+    (range.left <= cols[from]) & (cols[to - 1] <= range.right)
 }

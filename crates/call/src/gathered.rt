@@ -1,43 +1,58 @@
 // The numbers of the cells in range: conditional_numeric_values (conditional.rs) without its charges.
 use crate::Band;
 use crate::bands::cells_in;
+use crate::bands::is_wide;
+use crate::bands::next_in;
 use model::Range;
 ghost use Prim.Native.Nat.{ℕ, suc, _≤_, _-_};
 ghost use mathlib.Core.Path.{_≡_};
 ghost use mathlib.Core.Bool.{true, cond};
 ghost use mathlib.Core.List.{List, foldr};
+ghost use mathlib.Core.Option.{none};
 ghost use lib.Ieee.{eq};
 ghost use lib.ListN.{length, take, drop};
+ghost use Rattle.model.specs.Job.{firstFall};
 ghost use Rattle.model.specs.Rule.{cellsIn, numbers};
 ghost use Rattle.cells.specs.Columns.{columns, cellsOf};
 ghost use Rattle.turns.specs.Bands.{BandOf};
 ghost use Rattle.call.specs.Tables.{Numbered};
 
-// How many numbers the cells in range have, and the numbers in sheet order at the front of `values`. Each number is stored, and stays only
-// if it counts: so the loop has no branch.
+// How many numbers the cells in range have, and the numbers in sheet order at the front of `values`. Each float is stored, and stays only
+// if it is a number. From a cell out of range the way to the next that is in it is as long as it was from row to row before.
 pub(crate) fn gather(
     range: Range,
     band: Band,
+    rows: &[u32],
     cols: &[u16],
     floats: &[f64],
     values: &mut [f64],
 ) -> usize
-    requires { ⌜ (band .from ≤ band .to) × (band .to ≤ length (now cols)) × (band .to ≤ length (now floats))
-        × (band .to - band .from ≤ length (now values)) ⌝ }
+    requires { ⌜ (firstFall (now rows) (now cols) ≡ none) × (length (now rows) ≤ length (now cols)) × (band .from ≤ band .to)
+        × (band .to ≤ length (now rows)) × (band .to ≤ length (now floats)) × (band .to - band .from ≤ length (now values)) ⌝ }
     ensures few { λ r. ⌜ r ≤ length (now (values .entry)) ⌝ }
-    ensures values { λ r. ⌜ ((rows kinds wraps nums ats lens : List ℕ) → BandOf range rows (band .from) (band .to)
-        → Numbered (columns rows (now (cols .entry)) kinds wraps nums ats lens) (now (floats .entry))
-        → take r (now (values .exit)) ≡ numbers (cellsIn range (cellsOf (columns rows (now (cols .entry)) kinds wraps nums ats lens)))) ⌝ }
+    ensures values { λ r. ⌜ ((kinds wraps nums ats lens : List ℕ) → BandOf range (now (rows .entry)) (band .from) (band .to)
+        → Numbered (columns (now (rows .entry)) (now (cols .entry)) kinds wraps nums ats lens) (now (floats .entry))
+        → take r (now (values .exit)) ≡ numbers (cellsIn range (cellsOf (columns (now (rows .entry)) (now (cols .entry)) kinds wraps nums
+        ats lens)))) ⌝ }
 {
+    let to = band.to;
     let mut count = 0;
-    let mut i = band.from;
-    while i < band.to {
+    let mut gap = 0;
+    let mut start = band.from;
+    let mut i = start;
+    while i < to {
         let col = cols[i];
-        let x = floats[i];
-        let inside = (range.left <= col) & (col <= range.right);
-        values[count] = x;
-        count += (inside & (x == x)) as usize;
-        i += 1;
+        if (range.left <= col) & (col <= range.right) {
+            let x = floats[i];
+            values[count] = x;
+            count += (x == x) as usize;
+            i += 1;
+            start = i;
+            continue;
+        }
+        let next = next_in(range, rows, cols, i, to, gap);
+        gap = next - start;
+        i = next;
     }
     count
 }
@@ -68,6 +83,9 @@ pub(crate) fn all_numbers(range: Range, band: Band, cols: &[u16], floats: &[f64]
     let from = band.from;
     let to = band.to;
     let n = to - from;
+    if !is_wide(range, band, cols) {
+        return false;
+    }
     if cells_in(range, band, cols) != n {
         return false;
     }

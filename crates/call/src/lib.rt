@@ -7,8 +7,10 @@ mod gathered;
 mod marks;
 mod numbers;
 mod operands;
+mod picked;
 mod planned;
 mod rules;
+mod scales;
 
 use crate::columns::clear_columns;
 use crate::columns::settle_columns;

@@ -1,18 +1,17 @@
 // What a rule leaves in the columns, by the regions that it paints: its marks, each column by itself, its bars and its stops.
-use model::Rgb;
+use crate::scales::put_scale2;
+use crate::scales::put_scale3;
 use model::Test;
 use ratio::normalized_ppm;
 use ratio::packed;
-use ratio::scale2_colour;
-use ratio::scale3_colour;
 ghost use Prim.Native.Nat.{ℕ, _<_, _≤_, _-_, min};
 ghost use mathlib.Core.Path.{_≡_};
 ghost use mathlib.Core.Bool.{Bool, cond};
 ghost use mathlib.Core.List.{List, map};
-ghost use lib.Ieee.{Float, nan, le};
+ghost use lib.Ieee.{Float, nan};
 ghost use lib.ListN.{length, getD, replicate};
 ghost use lib.Seq.{sets};
-ghost use Rattle.model.specs.Ratio.{ratio, interpolateRgb, packed};
+ghost use Rattle.model.specs.Ratio.{ratio};
 ghost use Rattle.plans.specs.Plans.{isBarTest};
 ghost use Rattle.hits.specs.Painted.{kindBy, fillBy, colourBy, ppmBy};
 ghost use Rattle.turns.specs.Emit.{markColumns, hitMark, putMarks, barColumns, drawHit, drawHits, stopHits};
@@ -20,7 +19,7 @@ ghost use Rattle.turns.specs.Emit.{markColumns, hitMark, putMarks, barColumns, 
 // ---- one column of the marks from place n on; past its end nothing is written
 
 // How many of the marks there is space for.
-fn space_for(count: usize, n: usize, len: usize) -> usize
+pub(crate) fn space_for(count: usize, n: usize, len: usize) -> usize
     ensures { λ r. ⌜ r ≡ min count (len - n) ⌝ }
 {
     if len <= n {
@@ -54,7 +53,14 @@ fn put_same(value: u32, count: usize, n: usize, column: &mut [u32])
 }
 
 // The ratios of the regions' numbers.
-fn put_ratios(values: &[f64], hits: &[u16], least: f64, greatest: f64, n: usize, column: &mut [u32])
+pub(crate) fn put_ratios(
+    values: &[f64],
+    hits: &[u16],
+    least: f64,
+    greatest: f64,
+    n: usize,
+    column: &mut [u32],
+)
     requires { ⌜ ((k : ℕ) → k < length (now hits) → getD (now hits) k 0 < length (now values)) ⌝ }
     ensures { λ _. ⌜ now (column .exit) ≡ sets (now (column .entry)) n
         (map (λ h. ratio (getD (now (values .entry)) h nan) least greatest) (now (hits .entry))) ⌝ }
@@ -64,57 +70,6 @@ fn put_ratios(values: &[f64], hits: &[u16], least: f64, greatest: f64, n: usize,
     while k < end {
         let x = values[hits[k] as usize];
         column[n + k] = normalized_ppm(x, least, greatest);
-        k += 1;
-    }
-}
-
-// The colours of a scale of two.
-fn put_scale2(
-    values: &[f64],
-    hits: &[u16],
-    least: f64,
-    greatest: f64,
-    first: Rgb,
-    last: Rgb,
-    n: usize,
-    column: &mut [u32],
-)
-    requires { ⌜ ((k : ℕ) → k < length (now hits) → getD (now hits) k 0 < length (now values)) ⌝ }
-    ensures { λ _. ⌜ now (column .exit) ≡ sets (now (column .entry)) n (map (λ h. packed (interpolateRgb first last
-        (ratio (getD (now (values .entry)) h nan) least greatest))) (now (hits .entry))) ⌝ }
-{
-    let end = space_for(hits.len(), n, column.len());
-    let mut k = 0;
-    while k < end {
-        let x = values[hits[k] as usize];
-        column[n + k] = scale2_colour(x, least, greatest, first, last);
-        k += 1;
-    }
-}
-
-// The colours of a scale of three.
-fn put_scale3(
-    values: &[f64],
-    hits: &[u16],
-    least: f64,
-    midpoint: f64,
-    greatest: f64,
-    first: Rgb,
-    middle: Rgb,
-    last: Rgb,
-    n: usize,
-    column: &mut [u32],
-)
-    requires { ⌜ ((k : ℕ) → k < length (now hits) → getD (now hits) k 0 < length (now values)) ⌝ }
-    ensures { λ _. ⌜ now (column .exit) ≡ sets (now (column .entry)) n (map (λ h. packed (cond (le (getD (now (values .entry)) h nan)
-        midpoint) (interpolateRgb first middle (ratio (getD (now (values .entry)) h nan) least midpoint)) (interpolateRgb middle last
-        (ratio (getD (now (values .entry)) h nan) midpoint greatest)))) (now (hits .entry))) ⌝ }
-{
-    let end = space_for(hits.len(), n, column.len());
-    let mut k = 0;
-    while k < end {
-        let x = values[hits[k] as usize];
-        column[n + k] = scale3_colour(x, least, midpoint, greatest, first, middle, last);
         k += 1;
     }
 }
@@ -240,14 +195,24 @@ pub(crate) fn put_marks(
 
 // ---- bars and stops
 
-// The bar of a region, where it has none yet. Port of the bars of apply_conditional_paint (conditional.rs).
-fn draw_bar(rule: u8, ppm: u32, region: usize, rules: &mut [u32], ppms: &mut [u32])
+// The bar of a region with the number x, where it has none yet: only then is its ratio worked out. Port of the bars of
+// apply_conditional_paint (conditional.rs).
+fn draw_bar(
+    rule: u8,
+    x: f64,
+    least: f64,
+    greatest: f64,
+    region: usize,
+    rules: &mut [u32],
+    ppms: &mut [u32],
+)
     ensures { λ _. ⌜ barColumns (now (rules .exit)) (now (ppms .exit))
-        ≡ drawHit rule ppm region (barColumns (now (rules .entry)) (now (ppms .entry))) ⌝ }
+        ≡ drawHit rule (ratio x least greatest) region (barColumns (now (rules .entry)) (now (ppms .entry))) ⌝ }
 {
     if lent::at_u32(rules, region) != 0 {
         return;
     }
+    let ppm = normalized_ppm(x, least, greatest);
     if region < rules.len() {
         rules[region] = rule as u32 + 1;
     }
@@ -274,8 +239,7 @@ fn draw_hits(
     let mut k = 0;
     while k < hits.len() {
         let region = hits[k] as usize;
-        let ppm = normalized_ppm(values[region], least, greatest);
-        draw_bar(rule, ppm, region, rules, ppms);
+        draw_bar(rule, values[region], least, greatest, region, rules, ppms);
         k += 1;
     }
 }

@@ -21,6 +21,7 @@ ghost use Prim.Native.Nat.{ℕ, _<_, _≤_, _-_};
 ghost use mathlib.Core.Path.{_≡_};
 ghost use mathlib.Core.Bool.{true, false};
 ghost use mathlib.Core.List.{List};
+ghost use mathlib.Core.Option.{none};
 ghost use lib.ListN.{length, getD};
 ghost use Rattle.charging.specs.declared.Counter.{Counter};
 ghost use Rattle.charging.specs.declared.Charged.{Charged};
@@ -29,6 +30,7 @@ ghost use Rattle.model.specs.declared.CfRule.{CfRule};
 ghost use Rattle.model.specs.declared.Plan.{Plan};
 ghost use Rattle.model.specs.declared.Span.{Span};
 ghost use Rattle.model.specs.declared.Test.{Test};
+ghost use Rattle.model.specs.Job.{firstFall};
 ghost use Rattle.model.specs.Rule.{cellsIn, numbers, covered, planOf, plan};
 ghost use Rattle.model.specs.Sheet.{upright};
 ghost use Rattle.cells.specs.Columns.{columns, cellsOf};
@@ -43,15 +45,18 @@ fn plan_by_values(
     kind: CfRule,
     range: Range,
     band: Band,
+    rows: &[u32],
     cols: &[u16],
     floats: &[f64],
     scratch: &mut [f64],
 ) -> Plan
-    requires { ⌜ (band .from ≤ band .to) × (band .to ≤ 1024) × (band .to ≤ length (now cols)) × (band .to ≤ length (now floats))
+    requires { ⌜ (firstFall (now rows) (now cols) ≡ none) × (length (now rows) ≤ length (now cols)) × (band .from ≤ band .to)
+        × (band .to ≤ 1024) × (band .to ≤ length (now rows)) × (band .to ≤ length (now floats))
         × (band .to - band .from ≤ length (now scratch)) ⌝ }
-    ensures { λ r. ⌜ ((rows kinds wraps nums ats lens : List ℕ) → BandOf range rows (band .from) (band .to)
-        → Numbered (columns rows (now (cols .entry)) kinds wraps nums ats lens) (now (floats .entry))
-        → r ≡ planOfValues kind (numbers (cellsIn range (cellsOf (columns rows (now (cols .entry)) kinds wraps nums ats lens))))) ⌝ }
+    ensures { λ r. ⌜ ((kinds wraps nums ats lens : List ℕ) → BandOf range (now (rows .entry)) (band .from) (band .to)
+        → Numbered (columns (now (rows .entry)) (now (cols .entry)) kinds wraps nums ats lens) (now (floats .entry))
+        → r ≡ planOfValues kind (numbers (cellsIn range (cellsOf (columns (now (rows .entry)) (now (cols .entry)) kinds wraps nums ats
+        lens))))) ⌝ }
 {
     if all_numbers(range, band, cols, floats) {
         let from = band.from;
@@ -60,7 +65,7 @@ fn plan_by_values(
             return plan;
         }
     }
-    let count = gather(range, band, cols, floats, scratch);
+    let count = gather(range, band, rows, cols, floats, scratch);
     plan_of_values(kind, &mut scratch[..count])
 }
 
@@ -87,30 +92,47 @@ fn plan_of_duplicates(
     range: Range,
     band: Band,
     regions: Band,
+    rows: &[u32],
     cols: &[u16],
     codes: &[u16],
     places: &[u16],
+    region_rows: &[u32],
+    region_cols: &[u16],
     founds: &mut [u16],
 ) -> Plan
-    requires { ⌜ (band .from ≤ band .to) × (band .to ≤ 1024) × (band .to ≤ length (now cols)) × (band .to ≤ length (now codes)) ⌝ }
-    requires { ⌜ ((i : ℕ) → getD (now codes) i 0 < 1025) × (regions .from ≤ regions .to) × (regions .to ≤ length (now founds)) ⌝ }
-    ensures plan { λ r. ⌜ ((rows kinds wraps nums ats lens pool : List ℕ) (sheetRegions : List CellCoordinate) (name : Span)
-        → upright range ≡ true → Banded range (columns rows (now (cols .entry)) kinds wraps nums ats lens) (band .from) (band .to)
-        → Coded pool (columns rows (now (cols .entry)) kinds wraps nums ats lens) (now (codes .entry))
-        → r ≡ planOf (sheetFrom (cellsOf (columns rows (now (cols .entry)) kinds wraps nums ats lens)) sheetRegions pool name) range
+    requires { ⌜ (firstFall (now rows) (now cols) ≡ none) × (length (now rows) ≤ length (now cols)) × (band .to ≤ length (now rows))
+        × (band .from ≤ band .to) × (band .to ≤ 1024) × (band .to ≤ length (now codes)) ⌝ }
+    requires { ⌜ (firstFall (now «region_rows») (now «region_cols») ≡ none) × (length (now «region_rows») ≤ length (now «region_cols»))
+        × (regions .to ≤ length (now «region_rows»)) × (regions .from ≤ regions .to) × (regions .to ≤ length (now founds)) ⌝ }
+    requires { ⌜ ((i : ℕ) → getD (now codes) i 0 < 1025) ⌝ }
+    ensures plan { λ r. ⌜ ((kinds wraps nums ats lens pool : List ℕ) (sheetRegions : List CellCoordinate) (name : Span)
+        → upright range ≡ true → Banded range (columns (now (rows .entry)) (now (cols .entry)) kinds wraps nums ats lens) (band .from) (band .to)
+        → Coded pool (columns (now (rows .entry)) (now (cols .entry)) kinds wraps nums ats lens) (now (codes .entry))
+        → r ≡ planOf (sheetFrom (cellsOf (columns (now (rows .entry)) (now (cols .entry)) kinds wraps nums ats lens)) sheetRegions pool name) range
         (CfRule.DuplicateValues unique fill)) ⌝ }
-    ensures founds { λ r. ⌜ ((rows kinds wraps nums ats lens pool regionRows regionCols : List ℕ) (test : Test) → upright range ≡ true
-        → Banded range (columns rows (now (cols .entry)) kinds wraps nums ats lens) (band .from) (band .to)
-        → BandOf range regionRows (regions .from) (regions .to)
-        → Coded pool (columns rows (now (cols .entry)) kinds wraps nums ats lens) (now (codes .entry))
-        → Followed (columns rows (now (cols .entry)) kinds wraps nums ats lens) regionRows regionCols (now (places .entry))
+    ensures founds { λ r. ⌜ ((kinds wraps nums ats lens pool : List ℕ) (test : Test) → upright range ≡ true
+        → Banded range (columns (now (rows .entry)) (now (cols .entry)) kinds wraps nums ats lens) (band .from) (band .to)
+        → BandOf range (now («region_rows» .entry)) (regions .from) (regions .to)
+        → Coded pool (columns (now (rows .entry)) (now (cols .entry)) kinds wraps nums ats lens) (now (codes .entry))
+        → Followed (columns (now (rows .entry)) (now (cols .entry)) kinds wraps nums ats lens) (now («region_rows» .entry)) (now («region_cols» .entry)) (now (places .entry))
         → r ≡ Plan.Tested test
-        → Founded pool (columns rows (now (cols .entry)) kinds wraps nums ats lens) range regionRows regionCols (now (founds .exit))) ⌝ }
+        → Founded pool (columns (now (rows .entry)) (now (cols .entry)) kinds wraps nums ats lens) range (now («region_rows» .entry)) (now («region_cols» .entry)) (now (founds .exit))) ⌝ }
 {
     if !within_grid(range) {
         return Plan::Deferred;
     }
-    let keyless = count_keys(range, band, regions, cols, codes, places, founds);
+    let keyless = count_keys(
+        range,
+        band,
+        regions,
+        rows,
+        cols,
+        codes,
+        places,
+        region_rows,
+        region_cols,
+        founds,
+    );
     if !is_covered(range, band, cols, keyless) {
         return Plan::Deferred;
     }
@@ -123,25 +145,30 @@ fn plan_without_values(
     range: Range,
     band: Band,
     regions: Band,
+    rows: &[u32],
     cols: &[u16],
     codes: &[u16],
     places: &[u16],
+    region_rows: &[u32],
+    region_cols: &[u16],
     founds: &mut [u16],
 ) -> Plan
-    requires { ⌜ (band .from ≤ band .to) × (band .to ≤ 1024) × (band .to ≤ length (now cols)) × (band .to ≤ length (now codes)) ⌝ }
-    requires { ⌜ ((i : ℕ) → getD (now codes) i 0 < 1025) × (regions .from ≤ regions .to) × (regions .to ≤ length (now founds))
-        × (takesValues kind ≡ false) ⌝ }
-    ensures plan { λ r. ⌜ ((rows kinds wraps nums ats lens pool : List ℕ) (sheetRegions : List CellCoordinate) (name : Span)
-        → upright range ≡ true → Banded range (columns rows (now (cols .entry)) kinds wraps nums ats lens) (band .from) (band .to)
-        → (isDuplicates kind ≡ true → Coded pool (columns rows (now (cols .entry)) kinds wraps nums ats lens) (now (codes .entry)))
-        → r ≡ planOf (sheetFrom (cellsOf (columns rows (now (cols .entry)) kinds wraps nums ats lens)) sheetRegions pool name) range kind) ⌝ }
-    ensures founds { λ r. ⌜ ((rows kinds wraps nums ats lens pool regionRows regionCols : List ℕ) (test : Test) → upright range ≡ true
-        → Banded range (columns rows (now (cols .entry)) kinds wraps nums ats lens) (band .from) (band .to)
-        → BandOf range regionRows (regions .from) (regions .to) → isDuplicates kind ≡ true
-        → Coded pool (columns rows (now (cols .entry)) kinds wraps nums ats lens) (now (codes .entry))
-        → Followed (columns rows (now (cols .entry)) kinds wraps nums ats lens) regionRows regionCols (now (places .entry))
+    requires { ⌜ (firstFall (now rows) (now cols) ≡ none) × (length (now rows) ≤ length (now cols)) × (band .to ≤ length (now rows))
+        × (band .from ≤ band .to) × (band .to ≤ 1024) × (band .to ≤ length (now codes)) ⌝ }
+    requires { ⌜ (firstFall (now «region_rows») (now «region_cols») ≡ none) × (length (now «region_rows») ≤ length (now «region_cols»))
+        × (regions .to ≤ length (now «region_rows»)) × (regions .from ≤ regions .to) × (regions .to ≤ length (now founds)) ⌝ }
+    requires { ⌜ ((i : ℕ) → getD (now codes) i 0 < 1025) × (takesValues kind ≡ false) ⌝ }
+    ensures plan { λ r. ⌜ ((kinds wraps nums ats lens pool : List ℕ) (sheetRegions : List CellCoordinate) (name : Span)
+        → upright range ≡ true → Banded range (columns (now (rows .entry)) (now (cols .entry)) kinds wraps nums ats lens) (band .from) (band .to)
+        → (isDuplicates kind ≡ true → Coded pool (columns (now (rows .entry)) (now (cols .entry)) kinds wraps nums ats lens) (now (codes .entry)))
+        → r ≡ planOf (sheetFrom (cellsOf (columns (now (rows .entry)) (now (cols .entry)) kinds wraps nums ats lens)) sheetRegions pool name) range kind) ⌝ }
+    ensures founds { λ r. ⌜ ((kinds wraps nums ats lens pool : List ℕ) (test : Test) → upright range ≡ true
+        → Banded range (columns (now (rows .entry)) (now (cols .entry)) kinds wraps nums ats lens) (band .from) (band .to)
+        → BandOf range (now («region_rows» .entry)) (regions .from) (regions .to) → isDuplicates kind ≡ true
+        → Coded pool (columns (now (rows .entry)) (now (cols .entry)) kinds wraps nums ats lens) (now (codes .entry))
+        → Followed (columns (now (rows .entry)) (now (cols .entry)) kinds wraps nums ats lens) (now («region_rows» .entry)) (now («region_cols» .entry)) (now (places .entry))
         → r ≡ Plan.Tested test
-        → Founded pool (columns rows (now (cols .entry)) kinds wraps nums ats lens) range regionRows regionCols (now (founds .exit))) ⌝ }
+        → Founded pool (columns (now (rows .entry)) (now (cols .entry)) kinds wraps nums ats lens) range (now («region_rows» .entry)) (now («region_cols» .entry)) (now (founds .exit))) ⌝ }
 {
     match kind {
         CfRule::DuplicateValues { unique, fill } => plan_of_duplicates(
@@ -150,9 +177,12 @@ fn plan_without_values(
             range,
             band,
             regions,
+            rows,
             cols,
             codes,
             places,
+            region_rows,
+            region_cols,
             founds,
         ),
         _ => plan_of_operands(kind),
@@ -164,28 +194,34 @@ fn plan_rule(
     rule: Rule,
     band: Band,
     regions: Band,
+    rows: &[u32],
     cols: &[u16],
     floats: &[f64],
     codes: &[u16],
     places: &[u16],
+    region_rows: &[u32],
+    region_cols: &[u16],
     founds: &mut [u16],
     scratch: &mut [f64],
 ) -> Plan
-    requires { ⌜ (band .from ≤ band .to) × (band .to ≤ 1024) × (band .to ≤ length (now cols)) × (band .to ≤ length (now codes)) ⌝ }
-    requires { ⌜ (band .to ≤ length (now floats)) × (band .to - band .from ≤ length (now scratch)) ⌝ }
-    requires { ⌜ ((i : ℕ) → getD (now codes) i 0 < 1025) × (regions .from ≤ regions .to) × (regions .to ≤ length (now founds)) ⌝ }
-    ensures plan { λ r. ⌜ ((rows kinds wraps nums ats lens pool : List ℕ) (sheetRegions : List CellCoordinate) (name : Span)
-        → Banded (rule .range) (columns rows (now (cols .entry)) kinds wraps nums ats lens) (band .from) (band .to)
-        → Numbered (columns rows (now (cols .entry)) kinds wraps nums ats lens) (now (floats .entry))
-        → (isDuplicates (rule .kind) ≡ true → Coded pool (columns rows (now (cols .entry)) kinds wraps nums ats lens) (now (codes .entry)))
-        → r ≡ plan (sheetFrom (cellsOf (columns rows (now (cols .entry)) kinds wraps nums ats lens)) sheetRegions pool name) rule) ⌝ }
-    ensures founds { λ r. ⌜ ((rows kinds wraps nums ats lens pool regionRows regionCols : List ℕ) (test : Test)
-        → Banded (rule .range) (columns rows (now (cols .entry)) kinds wraps nums ats lens) (band .from) (band .to)
-        → BandOf (rule .range) regionRows (regions .from) (regions .to) → isDuplicates (rule .kind) ≡ true
-        → Coded pool (columns rows (now (cols .entry)) kinds wraps nums ats lens) (now (codes .entry))
-        → Followed (columns rows (now (cols .entry)) kinds wraps nums ats lens) regionRows regionCols (now (places .entry))
+    requires { ⌜ (firstFall (now rows) (now cols) ≡ none) × (length (now rows) ≤ length (now cols)) × (band .to ≤ length (now rows))
+        × (band .from ≤ band .to) × (band .to ≤ 1024) × (band .to ≤ length (now codes)) ⌝ }
+    requires { ⌜ (firstFall (now «region_rows») (now «region_cols») ≡ none) × (length (now «region_rows») ≤ length (now «region_cols»))
+        × (regions .to ≤ length (now «region_rows»)) × (regions .from ≤ regions .to) × (regions .to ≤ length (now founds)) ⌝ }
+    requires { ⌜ ((i : ℕ) → getD (now codes) i 0 < 1025) × (band .to ≤ length (now floats))
+        × (band .to - band .from ≤ length (now scratch)) ⌝ }
+    ensures plan { λ r. ⌜ ((kinds wraps nums ats lens pool : List ℕ) (sheetRegions : List CellCoordinate) (name : Span)
+        → Banded (rule .range) (columns (now (rows .entry)) (now (cols .entry)) kinds wraps nums ats lens) (band .from) (band .to)
+        → Numbered (columns (now (rows .entry)) (now (cols .entry)) kinds wraps nums ats lens) (now (floats .entry))
+        → (isDuplicates (rule .kind) ≡ true → Coded pool (columns (now (rows .entry)) (now (cols .entry)) kinds wraps nums ats lens) (now (codes .entry)))
+        → r ≡ plan (sheetFrom (cellsOf (columns (now (rows .entry)) (now (cols .entry)) kinds wraps nums ats lens)) sheetRegions pool name) rule) ⌝ }
+    ensures founds { λ r. ⌜ ((kinds wraps nums ats lens pool : List ℕ) (test : Test)
+        → Banded (rule .range) (columns (now (rows .entry)) (now (cols .entry)) kinds wraps nums ats lens) (band .from) (band .to)
+        → BandOf (rule .range) (now («region_rows» .entry)) (regions .from) (regions .to) → isDuplicates (rule .kind) ≡ true
+        → Coded pool (columns (now (rows .entry)) (now (cols .entry)) kinds wraps nums ats lens) (now (codes .entry))
+        → Followed (columns (now (rows .entry)) (now (cols .entry)) kinds wraps nums ats lens) (now («region_rows» .entry)) (now («region_cols» .entry)) (now (places .entry))
         → r ≡ Plan.Tested test
-        → Founded pool (columns rows (now (cols .entry)) kinds wraps nums ats lens) (rule .range) regionRows regionCols (now (founds .exit))) ⌝ }
+        → Founded pool (columns (now (rows .entry)) (now (cols .entry)) kinds wraps nums ats lens) (rule .range) (now («region_rows» .entry)) (now («region_cols» .entry)) (now (founds .exit))) ⌝ }
 {
     let range = rule.range;
     let kind = rule.kind;
@@ -193,9 +229,21 @@ fn plan_rule(
         return Plan::Deferred;
     }
     if takes_values(kind) {
-        return plan_by_values(kind, range, band, cols, floats, scratch);
+        return plan_by_values(kind, range, band, rows, cols, floats, scratch);
     }
-    plan_without_values(kind, range, band, regions, cols, codes, places, founds)
+    plan_without_values(
+        kind,
+        range,
+        band,
+        regions,
+        rows,
+        cols,
+        codes,
+        places,
+        region_rows,
+        region_cols,
+        founds,
+    )
 }
 
 // The same where the charges ahead of the regions are accepted. Else no work is done.
@@ -204,29 +252,35 @@ pub(crate) fn plan_within(
     rule: Rule,
     band: Band,
     regions: Band,
+    rows: &[u32],
     cols: &[u16],
     floats: &[f64],
     codes: &[u16],
     places: &[u16],
+    region_rows: &[u32],
+    region_cols: &[u16],
     founds: &mut [u16],
     scratch: &mut [f64],
 ) -> Plan
-    requires { ⌜ (band .from ≤ band .to) × (band .to ≤ 1024) × (band .to ≤ length (now cols)) × (band .to ≤ length (now codes)) ⌝ }
-    requires { ⌜ (band .to ≤ length (now floats)) × (band .to - band .from ≤ length (now scratch)) ⌝ }
-    requires { ⌜ ((i : ℕ) → getD (now codes) i 0 < 1025) × (regions .from ≤ regions .to) × (regions .to ≤ length (now founds)) ⌝ }
-    ensures plan { λ r. ⌜ ((rows kinds wraps nums ats lens pool : List ℕ) (sheetRegions : List CellCoordinate) (name : Span)
+    requires { ⌜ (firstFall (now rows) (now cols) ≡ none) × (length (now rows) ≤ length (now cols)) × (band .to ≤ length (now rows))
+        × (band .from ≤ band .to) × (band .to ≤ 1024) × (band .to ≤ length (now codes)) ⌝ }
+    requires { ⌜ (firstFall (now «region_rows») (now «region_cols») ≡ none) × (length (now «region_rows») ≤ length (now «region_cols»))
+        × (regions .to ≤ length (now «region_rows»)) × (regions .from ≤ regions .to) × (regions .to ≤ length (now founds)) ⌝ }
+    requires { ⌜ ((i : ℕ) → getD (now codes) i 0 < 1025) × (band .to ≤ length (now floats))
+        × (band .to - band .from ≤ length (now scratch)) ⌝ }
+    ensures plan { λ r. ⌜ ((kinds wraps nums ats lens pool : List ℕ) (sheetRegions : List CellCoordinate) (name : Span)
         (counter : Counter) → charged ≡ Charged.Within counter
-        → Banded (rule .range) (columns rows (now (cols .entry)) kinds wraps nums ats lens) (band .from) (band .to)
-        → Numbered (columns rows (now (cols .entry)) kinds wraps nums ats lens) (now (floats .entry))
-        → (isDuplicates (rule .kind) ≡ true → Coded pool (columns rows (now (cols .entry)) kinds wraps nums ats lens) (now (codes .entry)))
-        → r ≡ plan (sheetFrom (cellsOf (columns rows (now (cols .entry)) kinds wraps nums ats lens)) sheetRegions pool name) rule) ⌝ }
-    ensures founds { λ r. ⌜ ((rows kinds wraps nums ats lens pool regionRows regionCols : List ℕ) (test : Test)
-        → Banded (rule .range) (columns rows (now (cols .entry)) kinds wraps nums ats lens) (band .from) (band .to)
-        → BandOf (rule .range) regionRows (regions .from) (regions .to) → isDuplicates (rule .kind) ≡ true
-        → Coded pool (columns rows (now (cols .entry)) kinds wraps nums ats lens) (now (codes .entry))
-        → Followed (columns rows (now (cols .entry)) kinds wraps nums ats lens) regionRows regionCols (now (places .entry))
+        → Banded (rule .range) (columns (now (rows .entry)) (now (cols .entry)) kinds wraps nums ats lens) (band .from) (band .to)
+        → Numbered (columns (now (rows .entry)) (now (cols .entry)) kinds wraps nums ats lens) (now (floats .entry))
+        → (isDuplicates (rule .kind) ≡ true → Coded pool (columns (now (rows .entry)) (now (cols .entry)) kinds wraps nums ats lens) (now (codes .entry)))
+        → r ≡ plan (sheetFrom (cellsOf (columns (now (rows .entry)) (now (cols .entry)) kinds wraps nums ats lens)) sheetRegions pool name) rule) ⌝ }
+    ensures founds { λ r. ⌜ ((kinds wraps nums ats lens pool : List ℕ) (test : Test)
+        → Banded (rule .range) (columns (now (rows .entry)) (now (cols .entry)) kinds wraps nums ats lens) (band .from) (band .to)
+        → BandOf (rule .range) (now («region_rows» .entry)) (regions .from) (regions .to) → isDuplicates (rule .kind) ≡ true
+        → Coded pool (columns (now (rows .entry)) (now (cols .entry)) kinds wraps nums ats lens) (now (codes .entry))
+        → Followed (columns (now (rows .entry)) (now (cols .entry)) kinds wraps nums ats lens) (now («region_rows» .entry)) (now («region_cols» .entry)) (now (places .entry))
         → r ≡ Plan.Tested test
-        → Founded pool (columns rows (now (cols .entry)) kinds wraps nums ats lens) (rule .range) regionRows regionCols (now (founds .exit))) ⌝ }
+        → Founded pool (columns (now (rows .entry)) (now (cols .entry)) kinds wraps nums ats lens) (rule .range) (now («region_rows» .entry)) (now («region_cols» .entry)) (now (founds .exit))) ⌝ }
     ensures refused { λ r. ⌜ ((test : Test) → r ≡ Plan.Tested test → (counter : Counter) × (charged ≡ Charged.Within counter)) ⌝ }
 {
     match charged {
@@ -234,10 +288,13 @@ pub(crate) fn plan_within(
             rule,
             band,
             regions,
+            rows,
             cols,
             floats,
             codes,
             places,
+            region_rows,
+            region_cols,
             founds,
             scratch,
         ),

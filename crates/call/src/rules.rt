@@ -9,11 +9,11 @@ use crate::marks::stop_regions;
 use crate::numbers::number_cells;
 use crate::numbers::number_regions;
 use crate::operands::find_operands;
+use crate::picked::find_within;
 use crate::planned::plan_within;
 use charging::Charged;
 use charging::Counter;
 use hits::Found;
-use hits::find_hits;
 use hits::live;
 use model::CfRule;
 use model::Plan;
@@ -167,8 +167,8 @@ fn test_regions(
 ) -> Decided
     requires { ⌜ (firstFall (now rows) (now cols) ≡ none) × (length (now rows) ≤ 1024) × (length (now rows) ≡ length (now floats))
         × (length (now rows) ≤ length (now cols)) ⌝ }
-    requires { ⌜ BandOf (rule .range) (now «region_rows») (regions .from) (regions .to)
-        × (alive ≡ liveFrom (now flags) 0 (length (now «region_rows»))) ⌝ }
+    requires { ⌜ (firstFall (now «region_rows») (now «region_cols») ≡ none)
+        × BandOf (rule .range) (now «region_rows») (regions .from) (regions .to) × (alive ≡ liveFrom (now flags) 0 (length (now «region_rows»))) ⌝ }
     requires { ⌜ fitsHits 0 (length (now «region_rows»)) (known (now values) (now firsts) (now seconds) (now founds)) (now «region_cols»)
         (now flags) (length (now hits)) ≡ true ⌝ }
     ensures decided { λ r. ⌜ ((kinds wraps nums ats lens : List ℕ)
@@ -204,13 +204,13 @@ fn test_regions(
         firsts,
         seconds,
     );
-    let found = find_hits(
+    let found = find_within(
         test,
         range,
-        regions.from,
-        regions.to,
-        flags,
+        regions,
+        region_rows,
         region_cols,
+        flags,
         values,
         firsts,
         seconds,
@@ -272,10 +272,13 @@ fn decide(
         rule,
         band,
         regions,
+        rows,
         cols,
         floats,
         codes,
         places,
+        region_rows,
+        region_cols,
         founds,
         scratch,
     );

@@ -21,7 +21,7 @@ use Rattle.keys.proofs.Comparing.{tag-none, held-tag, rank-shared}
 use Rattle.keys.proofs.Ordering.{before-itself, before-through}
 
 -- what is at an index after a store
-stored : (xs : List ℕ) (i x j y : ℕ) → i < length xs → getD (set xs i x) j 0 ≡ y → ((j ≡ i) × (x ≡ y)) ⊎ (getD xs j 0 ≡ y)
+pub stored : (xs : List ℕ) (i x j y : ℕ) → i < length xs → getD (set xs i x) j 0 ≡ y → ((j ≡ i) × (x ≡ y)) ⊎ (getD xs j 0 ≡ y)
 stored xs i x j y h e = at (eqb j i) refl
   where
     at : (b : Bool) → eqb j i ≡ b → ((j ≡ i) × (x ≡ y)) ⊎ (getD xs j 0 ≡ y)
@@ -30,7 +30,7 @@ stored xs i x j y h e = at (eqb j i) refl
         inl (here, sym (getD-set-same xs i x 0 h) ∙ rw here at e)
     at false q = inr (sym (getD-set-other xs i j x 0 (eqb-false j i q)) ∙ e)
 
-abbrev key : List Key → ℕ → Key
+abbrev pub key : List Key → ℕ → Key
 key ks i = getD ks i Key.Nothing
 
 abbrev rank : List ℕ → List Key → ℕ → List ℕ

@@ -55,7 +55,7 @@ module _ (pool : List ℕ) where
   rank-shared (Key.Bool a) Key.Nothing h = differ h
   rank-shared Key.Nothing l h = differ h
 
-  word-shared : (k l : Key) → sameKey pool k l ≡ true → wordOf pool k ≡ wordOf pool l
+  pub word-shared : (k l : Key) → sameKey pool k l ≡ true → wordOf pool k ≡ wordOf pool l
   word-shared k l h = cc (rank-shared k l h)
 
   tag-shared : (k l : Key) → sameKey pool k l ≡ true → tagOf k ≡ tagOf l

@@ -6,3 +6,4 @@ pub mod Comparing
 pub mod Searching
 pub mod Ordering
 pub mod Along
+pub mod Tabling

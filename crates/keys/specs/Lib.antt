@@ -1,3 +1,4 @@
 pub mod Names
 pub mod Held
 pub mod Codes
+pub mod Places

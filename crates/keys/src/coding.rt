@@ -1,11 +1,13 @@
-// A code for each key of the sheet, worked out once: the keys are sorted, and those that are the same then stand side by side.
+// A code for each key of the sheet, worked out once, by a table of places; or else the keys are sorted, and those that are the same then
+// stand side by side.
 use crate::cell_count;
 use crate::name_at;
 use crate::same_held;
 use crate::sort::comes_before;
 use crate::sort::sorted;
-use crate::sort::wide;
+use crate::table::tabled_codes;
 use crate::tag;
+use crate::wide;
 use crate::word;
 use cells::cell_from;
 use readings::key::conditional_value_key;
@@ -137,17 +139,16 @@ fn sorted_codes(
     lens: &[u32],
     pool: &[u8],
     n: usize,
-    exact: bool,
 ) -> [u16; 1024]
     ensures { λ r. ⌜ ((ks : List ConditionalValueKey) → HeldBy (now (pool .entry)) (now (tags .entry)) (now (words .entry))
         (now (ats .entry)) (now (lens .entry)) ks → Coded (now (pool .entry)) ks r) ⌝ }
 {
-    let order = sorted(tags, words, ats, lens, pool, n, exact);
+    let order = sorted(tags, words, ats, lens, pool, n);
     let ids = order.ids;
     codes_along(tags, words, ats, lens, pool, &ids, order.count)
 }
 
-// Sorted by word alone, keys that have one word and differ may come mixed: then they are sorted exactly. That the sort sorts is not
+// Where the words give too few places, the table leaves keys without a code: then they are sorted. That the sort sorts is not
 // proved. What comes of it is looked at, and if it did not give each key a code, the keys would be compared by pairs.
 fn code_keys(
     tags: &[u8; 1024],
@@ -161,13 +162,13 @@ fn code_keys(
     ensures { λ r. ⌜ ((ks : List ConditionalValueKey) → HeldBy (now (pool .entry)) (now (tags .entry)) (now (words .entry))
         (now (ats .entry)) (now (lens .entry)) ks → length ks ≡ n → r ≡ namesOf (now (pool .entry)) ks) ⌝ }
 {
-    let quick = sorted_codes(tags, words, ats, lens, pool, n, false);
-    if covered(tags, &quick, n) {
-        return quick;
+    let tabled = tabled_codes(tags, words, ats, lens, pool, n);
+    if covered(tags, &tabled, n) {
+        return tabled;
     }
-    let exact = sorted_codes(tags, words, ats, lens, pool, n, true);
-    if covered(tags, &exact, n) {
-        return exact;
+    let sorted = sorted_codes(tags, words, ats, lens, pool, n);
+    if covered(tags, &sorted, n) {
+        return sorted;
     }
     pairwise(tags, words, ats, lens, pool, n)
 }

@@ -2,6 +2,7 @@
 // comparing numbers.
 mod coding;
 mod sort;
+mod table;
 
 pub use coding::codes;
 use model::ConditionalValueKey;
@@ -77,6 +78,26 @@ fn cell_count(rows: &[u32]) -> usize
         return rows.len();
     }
     1024
+}
+
+// ---- numbers
+
+fn wide(id: u16) -> usize
+    ensures { λ r. ⌜ r ≡ id ⌝ }
+{
+    id as usize
+}
+
+fn one_if(said: bool) -> usize
+    ensures { λ r. ⌜ r ≤ 1 ⌝ }
+{
+    if said { 1 } else { 0 }
+}
+
+fn smaller(a: usize, b: usize) -> usize
+    ensures { λ r. ⌜ r ≡ min a b ⌝ }
+{
+    if a < b { a } else { b }
 }
 
 // ---- keys compared where they are held

@@ -15,20 +15,19 @@ use crate::count::count_ahead_of_zero;
 use crate::count::count_below;
 use crate::count::count_up_to;
 use crate::count::stands_at;
+use crate::guess::Span;
 use crate::guess::between;
 use crate::guess::greatest_below;
-use crate::guess::halfway;
-use crate::guess::key_at;
-use crate::guess::next_index;
 use crate::guess::next_turn;
-use crate::guess::sought;
+use crate::guess::proposed;
+use crate::guess::step;
 use crate::key::of_key;
 use model::Reading;
 
 // ---- the value at k
 
 // Equal as a number to the value at k: which of two zeros it is stays open. The value stands between two keys, and each turn tries a key
-// between them: in turn that of a value, which is also asked for ties, and one halfway.
+// between them: that of a value, which is also asked for ties, or another one.
 fn near_value(values: &[f64], k: usize) -> f64
     requires { ⌜ allFinite (now values) ≡ true ⌝ }
     requires { ⌜ k < length (now values) ⌝ }
@@ -37,28 +36,32 @@ fn near_value(values: &[f64], k: usize) -> f64
     // the keys of -∞ and ∞
     let mut lo = 0x000f_ffff_ffff_ffff;
     let mut hi = 0xfff0_0000_0000_0000;
-    let mut at = k;
+    let mut below = 0;
+    let mut upper = values.len();
     let mut turn = 0;
     while hi - lo > 1 {
-        // 0: a value, which may be that of lo; 1: a key halfway, above lo
-        let step = turn % 2;
-        let mut proposed = halfway(lo, hi, turn);
-        if step == 0 {
-            at = sought(values, at, lo, hi);
-            proposed = key_at(values, at);
-            at = next_index(at, k, values.len());
-        }
-        let mid = between(lo + step, hi, proposed);
+        let span = Span {
+            lo,
+            hi,
+            below,
+            upper,
+        };
+        let first = step(k, span, turn);
+        let mid = between(lo + first, hi, proposed(values, k, span, turn));
         let t = of_key(mid);
-        if k < count_below(values, t) {
+        let less = count_below(values, t);
+        if k < less {
             hi = mid;
-        } else if step == 0 {
-            if k < count_up_to(values, t) {
+            upper = less;
+        } else if first == 0 {
+            below = count_up_to(values, t);
+            if k < below {
                 return t;
             }
             lo = mid + 1;
         } else {
             lo = mid;
+            below = less;
         }
         turn = next_turn(turn);
     }

@@ -2,8 +2,8 @@
 // them once for each region, so up to 1,000,000 neither has a branch on the value, which a processor would often guess wrong.
 ghost use mathlib.Core.Path.{_≡_};
 ghost use mathlib.Core.Bool.{cond};
-ghost use Prim.Native.Nat.{_≤_};
-ghost use lib.Dec.{T};
+ghost use Prim.Native.Nat.{_+_, _-_, _≤_, min};
+ghost use lib.Dec.{T, leb};
 ghost use lib.Ieee.{binary64, mul, le};
 ghost use Rattle.model.specs.Ratio.{millionF, heldToUnit, rounded, ratio, barCells, heldToByte, channel, interpolateRgb, packed};
 ghost use Rattle.ratio.specs.UpTo.{upTo};
@@ -35,10 +35,19 @@ fn rounded(x: f64) -> u32
 pub fn normalized_ppm(value: f64, minimum: f64, maximum: f64) -> u32
     ensures { λ r. ⌜ r ≡ ratio value minimum maximum ⌝ }
 {
-    if maximum <= minimum {
-        return 1_000_000;
-    }
-    rounded(held_to_unit((value - minimum) / (maximum - minimum)) * 1_000_000.0)
+    let ppm = rounded(held_to_unit((value - minimum) / (maximum - minimum)) * 1_000_000.0);
+    if maximum <= minimum { 1_000_000 } else { ppm }
+}
+
+// The place of a value among three ends, in parts per million of the half where it lies, and 1,000,000 more in the upper half: the midpoint
+// belongs to the lower half. The two ends of the half are chosen, so that one ratio serves both.
+pub fn place_among(x: f64, least: f64, midpoint: f64, greatest: f64) -> u32
+    ensures { λ r. ⌜ r ≡ cond (le x midpoint) (ratio x least midpoint) (1_000_000 + ratio x midpoint greatest) ⌝ }
+{
+    let low = if x <= midpoint { least } else { midpoint };
+    let high = if x <= midpoint { midpoint } else { greatest };
+    let more = if x <= midpoint { 0 } else { 1_000_000 };
+    normalized_ppm(x, low, high) + more
 }
 
 // How many of forty cells a bar fills.
@@ -118,27 +127,42 @@ pub fn packed(c: Rgb) -> u32
 
 // ---- colour scales, as the colour column holds them
 
-// The colour of the arm CfRule::ColorScale2 of resolve_conditional_paints (conditional.rs). A ratio is at most 1,000,000 and needs no test.
-pub fn scale2_colour(x: f64, least: f64, greatest: f64, min: Rgb, max: Rgb) -> u32
-    ensures { λ r. ⌜ r ≡ packed (interpolateRgb min max (ratio x least greatest)) ⌝ }
+// The colour of the arm CfRule::ColorScale2 of resolve_conditional_paints (conditional.rs) at a ratio; no ratio is above 1,000,000.
+pub fn blended(first: Rgb, last: Rgb, ppm: u32) -> u32
+    ensures { λ r. ⌜ r ≡ packed (interpolateRgb first last (min ppm 1_000_000)) ⌝ }
 {
-    packed(interpolate_within(min, max, normalized_ppm(x, least, greatest)))
+    let held = if ppm < 1_000_000 { ppm } else { 1_000_000 };
+    packed(interpolate_within(first, last, held))
 }
 
-// The colour of the arm CfRule::ColorScale3: the midpoint belongs to the lower half.
-pub fn scale3_colour(
-    x: f64,
-    least: f64,
-    midpoint: f64,
-    greatest: f64,
-    min: Rgb,
-    mid: Rgb,
-    max: Rgb,
-) -> u32
-    ensures { λ r. ⌜ r ≡ packed (cond (le x midpoint) (interpolateRgb min mid (ratio x least midpoint)) (interpolateRgb mid max (ratio x midpoint greatest))) ⌝ }
+// A channel at a place among three colours: it goes one product from the first to the middle, and another from there to the last.
+fn channel_among(first: u8, middle: u8, last: u8, place: u32) -> u8
+    requires { ⌜ place ≤ 2_000_000 ⌝ }
+    ensures { λ r. ⌜ r ≡ cond (leb place 1_000_000) (channel first middle place) (channel middle last (place - 1_000_000)) ⌝ }
 {
-    if x <= midpoint {
-        return scale2_colour(x, least, midpoint, min, mid);
+    let lower = if place < 1_000_000 { place } else { 1_000_000 };
+    let raised = 1_000_000 * (first as u32) + 500_000;
+    let rise = (middle as u32) + 256 - (first as u32);
+    let onward = (last as u32) + 256 - (middle as u32);
+    ((raised + rise * lower + onward * (place - lower) - 256 * place) / 1_000_000) as u8
+}
+
+fn interpolate_among(first: Rgb, middle: Rgb, last: Rgb, place: u32) -> Rgb
+    requires { ⌜ place ≤ 2_000_000 ⌝ }
+    ensures { λ r. ⌜ r ≡ cond (leb place 1_000_000) (interpolateRgb first middle place) (interpolateRgb middle last (place - 1_000_000)) ⌝ }
+{
+    Rgb {
+        red: channel_among(first.red, middle.red, last.red, place),
+        green: channel_among(first.green, middle.green, last.green, place),
+        blue: channel_among(first.blue, middle.blue, last.blue, place),
     }
-    scale2_colour(x, midpoint, greatest, mid, max)
+}
+
+// The colour of the arm CfRule::ColorScale3 at a place as `place_among` gives it; none is above 2,000,000.
+pub fn blended_among(first: Rgb, middle: Rgb, last: Rgb, place: u32) -> u32
+    ensures { λ r. ⌜ r ≡ packed (cond (leb place 1_000_000) (interpolateRgb first middle place)
+        (interpolateRgb middle last (min (place - 1_000_000) 1_000_000))) ⌝ }
+{
+    let held = if place < 2_000_000 { place } else { 2_000_000 };
+    packed(interpolate_among(first, middle, last, held))
 }

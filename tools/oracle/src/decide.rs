@@ -51,6 +51,11 @@ pub fn run(sheet: &Sheet, displayed: &Displayed, regions: &mut [Region], options
 
 /// The checks of document 01, then the original's run, then refusal 9.
 pub fn decide(job: &Job, resolve: Resolve) -> Outcome {
+    decide_within(job, resolve, MAX_MARKS)
+}
+
+/// The same with space for so many marks.
+pub fn decide_within(job: &Job, resolve: Resolve, space: usize) -> Outcome {
     check(job)?;
     let Carried { sheet, mut regions, options, start } = carry_over(job);
     let Left { result, warnings, count } = run(&sheet, &display_cells(&sheet), &mut regions, &options, start, resolve);
@@ -59,7 +64,7 @@ pub fn decide(job: &Job, resolve: Resolve) -> Outcome {
         Ok(text_layout) => {
             assert!(!text_layout, "the original asks for text layout outside the domain of document 01");
             let (marks, bars) = listed(&events, &regions);
-            if marks.len() > MAX_MARKS {
+            if marks.len() > space {
                 return Err(Refusal { number: 9, place: 0, count, actual: marks.len() as u64 });
             }
             Ok(Answer { count, marks, bars, deferred: warnings.deferred, simplified: warnings.simplified })

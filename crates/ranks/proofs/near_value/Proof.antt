@@ -12,10 +12,10 @@ use Rattle.ranks.proofs.near_value.Statement.{statement}
 use Rattle.ranks.proofs.near_value.Tie as tie
 
 abbrev Inv-loop : tie.InvT-loop
-Inv-loop values k lo₀ hi₀ at₀ turn₀ lo hi at turn = Halved values k lo hi
+Inv-loop values k lo₀ hi₀ below₀ upper₀ turn₀ lo hi below upper turn = Halved values k lo hi
 
 abbrev μ-loop : tie.MeasureT-loop
-μ-loop values k lo₀ hi₀ at₀ turn₀ lo hi at turn = hi - lo
+μ-loop values k lo₀ hi₀ below₀ upper₀ turn₀ lo hi below upper turn = hi - lo
 
 loop-holds : tie.Need-loop-holds Inv-loop μ-loop
 loop-holds c = let p = c .before .pre in halved-begins _ _ (all-finite _ (p .0)) (p .1)
@@ -23,24 +23,18 @@ loop-holds c = let p = c .before .pre in halved-begins _ _ (all-finite _ (p .0))
 sub-loop : tie.Need-sub-loop Inv-loop μ-loop
 sub-loop c = omega (arith, c .loop .inv .apart)
 
-halfway-requires : tie.Need-halfway-requires Inv-loop μ-loop
-halfway-requires c κs = search needs
-
-sought-requires : tie.Need-sought-requires Inv-loop μ-loop
-sought-requires c κs = search needs
-
-key-at-requires : tie.Need-key-at-requires Inv-loop μ-loop
-key-at-requires c κs = search needs
-
-next-index-requires : tie.Need-next-index-requires Inv-loop μ-loop
-next-index-requires c κs = search needs
+step-requires : tie.Need-step-requires Inv-loop μ-loop
+step-requires c κs = search needs
 
 add-between : tie.Need-add-between Inv-loop μ-loop
 add-between c =
-    record { fits = omega (arith, c .before .before .loop-test .taken, c .before .before .before .loop .inv .high) }
+    record { fits = omega (arith, c .step .ensures, c .before .loop-test .taken, c .before .before .loop .inv .high) }
+
+proposed-requires : tie.Need-proposed-requires Inv-loop μ-loop
+proposed-requires c κs = search needs
 
 between-requires : tie.Need-between-requires Inv-loop μ-loop
-between-requires c κs = search needs
+between-requires c κs = omega (arith, c .before .step .ensures, c .before .before .loop-test .taken)
 
 of-key-requires : tie.Need-of-key-requires Inv-loop μ-loop
 of-key-requires c κs = search needs
@@ -57,8 +51,8 @@ returns c =
     let a = n .before .before .before .before .before .before .before .before in
     let t = n .before .of-key .result in
     kth-told _ (a .args .k) (all-finite _ (a .pre .0)) (a .pre .1) t
-    (omega (arith, n .count-below .ensures, c .before .before .before .if2 .left))
-    (omega (arith, c .before .count-up-to .ensures, c .if4 .taken))
+    (omega (arith, n .count-below .ensures, c .before .before .before .if1 .left))
+    (omega (arith, c .before .count-up-to .ensures, c .if3 .taken))
 
 add-lo : tie.Need-add-lo Inv-loop μ-loop
 add-lo c = search needs
@@ -71,7 +65,7 @@ loop-less c =
     let b = c .before .before .before .before .between .ensures in
     ⊎-elim (λ w. omega (arith, w .1, w .2, b .0, b .1))
     (⊎-elim (λ w. omega (arith, w .4, w .5, b .0, b .1)) (λ w. omega (arith, w .1 .left, w .2, w .3, b .0, b .1)))
-    (c .before .if2 .came)
+    (c .before .if1 .came)
 
 loop-again : tie.Need-loop-again Inv-loop μ-loop
 loop-again c =
@@ -91,7 +85,7 @@ loop-again c =
     (λ w. rw (w .2, w .3)
     (halved-up _ _ f h (l .lo) (l .hi) (b .result) (l .inv) (omega (arith, b .ensures .0)) (b .ensures .1)
     (rw (← t, ← n .count-below .ensures) (w .0 .left)))))
-    (c .before .if2 .came)
+    (c .before .if1 .came)
 
 of-key-requires-2 : tie.Need-of-key-requires-2 Inv-loop μ-loop
 of-key-requires-2 c κs = search needs
@@ -112,11 +106,9 @@ near-value-spec =
     μ-loop
     loop-holds
     sub-loop
-    halfway-requires
-    sought-requires
-    key-at-requires
-    next-index-requires
+    step-requires
     add-between
+    proposed-requires
     between-requires
     of-key-requires
     count-below-requires

@@ -10,6 +10,7 @@ mod one_code;
 pub mod places;
 pub mod reasons;
 mod whole;
+pub mod wide;
 
 use crate::job::{CellAt, Job, Kind, Operand, Range, Reference, Rgb24, Rule, Value};
 use crate::rng::Rng;

@@ -13,7 +13,7 @@ slice-aggregate-count-codes c = search needs
 
 count-codes-requires : tie.Need-count-codes-requires
 count-codes-requires c κs =
-    let pre = c .before .before .before .before .before .pre in
+    let pre = c .before .before .before .before .before .before .before .before .pre in
     (pre .0, (pre .1 .1, λ code. blank 1025 code))
 
 slice-aggregate-look-up : tie.Need-slice-aggregate-look-up
@@ -30,12 +30,13 @@ same-length c = search needs
 
 returns : tie.Need-returns
 returns c =
-    let start = c .before .before .before .before .before .before .before .before .before .before .before .before in
+    let start =
+    c .before .before .before .before .before .before .before .before .before .before .before .before .before .before .before in
     let a = start .args in
     let counted = c .before .before .before .before .before .before .count-codes .ensures in (
-      λ rows band. counted rows band 0 (omega arith),
-      λ rows band i h l. c .before .before .look-up .ensures i h l
-          ∙ counted rows band _ (named-below (a .codes .now) (omega arith) (start .pre .1 .1) (getD (a .places .now) i 0)),
+      λ band. counted band 0 (omega arith),
+      λ band i h l inside. c .before .before .look-up .ensures i h l inside
+          ∙ counted band _ (named-below (a .codes .now) (omega arith) (start .pre .1 .1) (getD (a .places .now) i 0)),
     )
 
 pub count-keys-spec : {M : Type 1} → statement M

@@ -1,15 +1,18 @@
--- `call::counts::look_up` meets its contract. The loop's invariant: in the band up to i each region has the count of its cell's code. The
--- measure is how many regions of the band are left. Assumes nothing.
+-- `call::counts::look_up` meets its contract. The loop's invariant: in the band up to i each region in range has the count of its cell's
+-- code. The measure is how many regions of the band are left. Assumes nothing.
 use Prim.Native.Nat.{ℕ, _-_, _≤_}
 use native.Mathlib.Omega.{arith}
-use mathlib.Core.Path.{refl, ap, _∙_}
+use mathlib.Core.Path.{ap, _∙_}
+use mathlib.Core.Bool.{Bool, _&&_, and-false}
 use mathlib.Core.List.{List}
 use lib.Dec.{leb}
 use lib.ListN.{length, getD}
 use borrow.Author.Needs.{needs}
-use borrow.Author.Tests.{leb-true, le-leb}
+use borrow.Author.Tests.{le-leb, lt-leb}
+use Rattle.model.specs.declared.Range.{Range}
+use Rattle.hits.specs.Hits.{columnIn}
 use Rattle.call.specs.Tables.{codeNamed}
-use Rattle.call.proofs.Filling.{FilledIn, filled-more}
+use Rattle.call.proofs.Filling.{FilledIn, filled-from, filled-skip, filled-more}
 use Rattle.call.proofs.counts.look_up.Statement.{statement}
 use Rattle.call.proofs.counts.look_up.Tie as tie
 
@@ -17,17 +20,25 @@ use Rattle.call.proofs.counts.look_up.Tie as tie
 abbrev found : List ℕ → List ℕ → List ℕ → ℕ → ℕ
 found places codes counts i = getD counts (codeNamed codes (getD places i 0)) 0
 
+-- a region of the band that is in range
+abbrev wanted : Range → ℕ → List ℕ → ℕ → Bool
+wanted range from cols k = leb from k && columnIn range (getD cols k 0)
+
 abbrev Inv-loop : tie.InvT-loop
-Inv-loop places codes counts regions founds₀ i₀ founds i =
-    (i ≤ regions .to) × FilledIn 0 (leb (regions .from)) (found places codes counts) founds₀ founds i
+Inv-loop range places codes counts region-rows region-cols founds₀ to gap₀ from i₀ founds gap start i =
+    (from ≤ start) × (start ≤ i) × (i ≤ to) × FilledIn 0 (wanted range from region-cols) (found places codes counts) founds₀ founds i
 
 abbrev μ-loop : tie.MeasureT-loop
-μ-loop places codes counts regions founds₀ i₀ founds i = regions .to - i
+μ-loop range places codes counts region-rows region-cols founds₀ to gap₀ from i₀ founds gap start i = to - i
 
 loop-holds : tie.Need-loop-holds Inv-loop μ-loop
-loop-holds c =
-    let from = c .before .before .before .before .args .regions .from in
-    (omega arith, record { long = refl; filled = λ k h wanted. absurd (omega (arith, leb-true from k wanted)) })
+loop-holds c = (omega arith, omega arith, omega arith, filled-from (λ k h. rw (lt-leb _ k h)))
+
+mul-col : tie.Need-mul-col Inv-loop μ-loop
+mul-col c = search needs
+
+shared-slice-read-col : tie.Need-shared-slice-read-col Inv-loop μ-loop
+shared-slice-read-col c = search needs
 
 at-u16-requires : tie.Need-at-u16-requires Inv-loop μ-loop
 at-u16-requires c κs = search needs
@@ -45,7 +56,7 @@ mul-founds : tie.Need-mul-founds Inv-loop μ-loop
 mul-founds c = search needs
 
 slice-write-founds : tie.Need-slice-write-founds Inv-loop μ-loop
-slice-write-founds c = let l = c .before .before .before .before .before .loop in omega (arith, l .inv .1 .long)
+slice-write-founds c = let l = c .before .before .before .before .before .before .before .before .loop in omega (arith, l .inv .3 .long)
 
 add-i : tie.Need-add-i Inv-loop μ-loop
 add-i c = search needs
@@ -55,20 +66,45 @@ loop-less c = search needs
 
 loop-again : tie.Need-loop-again Inv-loop μ-loop
 loop-again c =
-    let l = c .before .before .before .before .before .loop in
-    let a = c .before .before .before .before .before .before .before .before .before .before .args in
+    let l = c .before .before .before .before .before .before .before .before .loop in
+    let a = c .before .before .before .before .before .before .before .before .before .before .before .before .before .before .before .args in
     let code = c .before .code-named .ensures ∙ ap (codeNamed (a .codes .now)) (c .before .before .at-u16 .ensures) in (
       omega arith,
-      filled-more (l .inv .1) (omega (arith, l .inv .1 .long)) (c .at-u162 .ensures ∙ ap (λ n. getD (a .counts .now) n 0) code),
+      omega arith,
+      omega arith,
+      filled-more (l .inv .3) (omega (arith, l .inv .3 .long)) (c .at-u162 .ensures ∙ ap (λ n. getD (a .counts .now) n 0) code),
+    )
+
+next-in-requires : tie.Need-next-in-requires Inv-loop μ-loop
+unfolding columnIn
+next-in-requires c κs =
+    let pre = c .before .before .before .before .before .before .before .before .before .before .before .before .pre in
+    (pre .0, omega arith, pre .2, pre .1, c .if1 .left)
+
+sub-gap : tie.Need-sub-gap Inv-loop μ-loop
+sub-gap c = omega (arith, c .next-in .ensures .0)
+
+loop-less-2 : tie.Need-loop-less-2 Inv-loop μ-loop
+loop-less-2 c = omega (arith, c .next-in .ensures .0, c .next-in .ensures .1)
+
+loop-again-2 : tie.Need-loop-again-2 Inv-loop μ-loop
+loop-again-2 c =
+    let l = c .before .before .before .before .before .before .loop in
+    let next = c .next-in .ensures in (
+      omega arith,
+      omega (arith, next .0),
+      next .1,
+      filled-skip (l .inv .3) (c .next-in .result) (λ k p q. rw (next .2 k p q, and-false)),
     )
 
 same-length : tie.Need-same-length Inv-loop μ-loop
-same-length c = c .before .before .loop .inv .1 .long
+same-length c = c .before .loop .inv .3 .long
 
 returns : tie.Need-returns Inv-loop μ-loop
 returns c =
-    let l = c .before .before .loop in
-    λ i a b. l .inv .1 .filled i (omega arith) (le-leb (c .before .before .before .before .before .before .before .args .regions .from) i a)
+    let l = c .before .loop in
+    let a = c .before .before .before .before .before .before .before .before .args in
+    λ i h k inside. l .inv .3 .filled i (omega arith) (rw (le-leb (a .regions .from) i h, inside))
 
 pub look-up-spec : {M : Type 1} → statement M
 look-up-spec =
@@ -77,6 +113,8 @@ look-up-spec =
     Inv-loop
     μ-loop
     loop-holds
+    mul-col
+    shared-slice-read-col
     at-u16-requires
     code-named-requires
     cast-at-u16
@@ -86,5 +124,9 @@ look-up-spec =
     add-i
     loop-less
     loop-again
+    next-in-requires
+    sub-gap
+    loop-less-2
+    loop-again-2
     same-length
     returns)

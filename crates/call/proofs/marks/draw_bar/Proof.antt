@@ -18,6 +18,9 @@ same-length c = search needs
 returns : tie.Need-returns
 returns c = sym (bar-kept _ _ _ _ _ (λ e. c .if1 .taken (c .before .at-u32 .ensures ∙ e)))
 
+normalized-ppm-requires : tie.Need-normalized-ppm-requires
+normalized-ppm-requires c κs = search needs
+
 add-rules : tie.Need-add-rules
 add-rules c = search needs
 
@@ -42,10 +45,11 @@ same-length-3 c = search needs
 
 returns-2 : tie.Need-returns-2
 returns-2 c =
-    let a = c .before .before .before .before .before .before .before .args in
-    let none = sym (c .before .before .before .at-u32 .ensures) ∙ c .before .before .if1 .left in
-    bar-new (a .rule) (a .ppm) (a .region) (a .rules .now) (a .ppms .now) none
-    (⊎-elim (λ w. w .1) (λ w. w .1 ∙ sym (set-out _ _ _ (w .0 .left))) (c .before .if2 .came)) refl
+    let a = c .before .before .before .before .before .before .before .before .args in
+    let none = sym (c .before .before .before .before .at-u32 .ensures) ∙ c .before .before .before .if1 .left in
+    let ppm = c .before .before .normalized-ppm in
+    rw (← ppm .ensures) (bar-new (a .rule) (ppm .result) (a .region) (a .rules .now) (a .ppms .now) none
+    (⊎-elim (λ w. w .1) (λ w. w .1 ∙ sym (set-out _ _ _ (w .0 .left))) (c .before .if2 .came)) refl)
 
 same-length-4 : tie.Need-same-length-4
 same-length-4 c =
@@ -53,10 +57,11 @@ same-length-4 c =
 
 returns-3 : tie.Need-returns-3
 returns-3 c =
-    let a = c .before .before .before .before .before .before .before .args in
-    let none = sym (c .before .before .before .at-u32 .ensures) ∙ c .before .before .if1 .left in
-    bar-new (a .rule) (a .ppm) (a .region) (a .rules .now) (a .ppms .now) none
-    (⊎-elim (λ w. w .1) (λ w. w .1 ∙ sym (set-out _ _ _ (w .0 .left))) (c .before .if2 .came)) (sym (set-out _ _ _ (c .if3 .left)))
+    let a = c .before .before .before .before .before .before .before .before .args in
+    let none = sym (c .before .before .before .before .at-u32 .ensures) ∙ c .before .before .before .if1 .left in
+    let ppm = c .before .before .normalized-ppm in
+    rw (← ppm .ensures) (bar-new (a .rule) (ppm .result) (a .region) (a .rules .now) (a .ppms .now) none
+    (⊎-elim (λ w. w .1) (λ w. w .1 ∙ sym (set-out _ _ _ (w .0 .left))) (c .before .if2 .came)) (sym (set-out _ _ _ (c .if3 .left))))
 
 pub draw-bar-spec : {M : Type 1} → statement M
 draw-bar-spec =
@@ -65,6 +70,7 @@ draw-bar-spec =
     at-u32-requires
     same-length
     returns
+    normalized-ppm-requires
     add-rules
     mul-rules
     slice-write-rules

@@ -1,7 +1,7 @@
 -- `call::marks::draw_hits` meets its contract. The loop's invariant: the regions left make of the bars so far what all of them make of the
 -- bars at first. The measure is how many are left. Assumes nothing.
 use Prim.Native.Nat.{_-_}
-use mathlib.Core.Path.{ap}
+use mathlib.Core.Path.{refl, ap}
 use native.Mathlib.Omega.{arith}
 use lib.Ieee.{nan}
 use lib.ListN.{length, getD}
@@ -31,15 +31,12 @@ shared-slice-read-region c = search needs
 cast-region : tie.Need-cast-region Inv-loop μ-loop
 cast-region c = omega (arith, c .shared-slice-known3 .given (c .before .before .loop .k))
 
-mul-normalized-ppm : tie.Need-mul-normalized-ppm Inv-loop μ-loop
-mul-normalized-ppm c = omega (arith, c .shared-slice-known3 .given (c .before .before .loop .k))
+mul-draw-bar : tie.Need-mul-draw-bar Inv-loop μ-loop
+mul-draw-bar c = omega (arith, c .shared-slice-known3 .given (c .before .before .loop .k))
 
-shared-slice-read-normalized-ppm : tie.Need-shared-slice-read-normalized-ppm Inv-loop μ-loop
-shared-slice-read-normalized-ppm c =
+shared-slice-read-draw-bar : tie.Need-shared-slice-read-draw-bar Inv-loop μ-loop
+shared-slice-read-draw-bar c =
     c .before .before .before .before .before .before .before .before .pre _ (c .before .before .loop-test .taken)
-
-normalized-ppm-requires : tie.Need-normalized-ppm-requires Inv-loop μ-loop
-normalized-ppm-requires c κs = search needs
 
 draw-bar-requires : tie.Need-draw-bar-requires Inv-loop μ-loop
 draw-bar-requires c κs = search needs
@@ -53,9 +50,8 @@ loop-less c = search needs
 loop-again : tie.Need-loop-again Inv-loop μ-loop
 loop-again c =
     let drawn = c .before .before .before .before in
-    let ppm = drawn .before .before .before in
-    let turn = ppm .before .before .before in
-    drawn-turn (turn .before .loop .inv) (turn .loop-test .taken) (ppm .normalized-ppm .ensures) (drawn .draw-bar .ensures)
+    let turn = drawn .before .before .before .before .before in
+    drawn-turn (turn .before .loop .inv) (turn .loop-test .taken) refl (drawn .draw-bar .ensures)
 
 same-length : tie.Need-same-length Inv-loop μ-loop
 same-length c = ap (λ l. getD l 0 0) (drawn-long (c .before .loop .inv))
@@ -76,9 +72,8 @@ draw-hits-spec =
     mul-region
     shared-slice-read-region
     cast-region
-    mul-normalized-ppm
-    shared-slice-read-normalized-ppm
-    normalized-ppm-requires
+    mul-draw-bar
+    shared-slice-read-draw-bar
     draw-bar-requires
     add-k
     loop-less

@@ -30,10 +30,10 @@ enum-known-plan : tie.Need-enum-known-plan
 enum-known-plan c = search needs
 
 returns : tie.Need-returns
-returns c rows kinds wraps nums ats lens band numbered =
+returns c kinds wraps nums ats lens band numbered =
     let told = c .before .before .before in
     let taken = told .before .before in
-    let all = taken .before .all-numbers .ensures rows kinds wraps nums ats lens band numbered (taken .if1 .taken) in
+    let all = taken .before .all-numbers .ensures _ kinds wraps nums ats lens band numbered (taken .if1 .taken) in
     planned-is _ _ _ (sym (c .before .plan .given .1) ∙ told .plan-of-numbers .ensures) ∙ ap (planOfValues _) all
 
 enum-told : tie.Need-enum-told
@@ -56,10 +56,10 @@ same-length : tie.Need-same-length
 same-length c = search needs
 
 returns-2 : tie.Need-returns-2
-returns-2 c rows kinds wraps nums ats lens band numbered =
+returns-2 c kinds wraps nums ats lens band numbered =
     c .before .before .plan-of-values .ensures .0
     ∙ ap (planOfValues _)
-    (c .before .before .before .before .before .before .gather .ensures .1 rows kinds wraps nums ats lens band numbered)
+    (c .before .before .before .before .before .before .gather .ensures .1 kinds wraps nums ats lens band numbered)
 
 pub plan-by-values-spec : {M : Type 1} → statement M
 plan-by-values-spec =

@@ -14,9 +14,9 @@ upright-requires c κs = search needs
 
 returns : tie.Need-returns
 returns c = (
-  λ rows kinds wraps nums ats lens pool regions name banded numbered coded.
+  λ kinds wraps nums ats lens pool regions name banded numbered coded.
       sym (plan-inverted _ _ (sym (c .before .upright .ensures) ∙ not-true _ (c .if1 .taken))),
-  λ rows kinds wraps nums ats lens pool regionRows regionCols test banded band counts coded followed tested. absurd (untested test tested),
+  λ kinds wraps nums ats lens pool test banded band counts coded followed tested. absurd (untested test tested),
 )
 
 takes-values-requires : tie.Need-takes-values-requires
@@ -34,18 +34,18 @@ returns-2 c =
     let taken = c .before .before .before .before in
     let takes = sym (taken .before .takes-values .ensures) ∙ taken .if2 .taken in
     let up = taken .before .before in (
-      λ rows kinds wraps nums ats lens pool regions name banded numbered coded.
-          c .before .before .plan-by-values .ensures rows kinds wraps nums ats lens (banded .band) numbered
+      λ kinds wraps nums ats lens pool regions name banded numbered coded.
+          c .before .before .plan-by-values .ensures kinds wraps nums ats lens (banded .band) numbered
           ∙ sym (plan-of-values _ _ takes (sym (up .before .upright .ensures) ∙ not-false _ (up .if1 .left))),
-      λ rows kinds wraps nums ats lens pool regionRows regionCols test banded band counts coded followed tested.
+      λ kinds wraps nums ats lens pool test banded band counts coded followed tested.
           absurd (true≢false (sym counts ∙ values-no-duplicates _ takes)),
     )
 
 plan-without-values-requires : tie.Need-plan-without-values-requires
 plan-without-values-requires c κs =
-    let pre = c .before .before .before .before .before .before .before .before .before .before .before .before .pre in
-    let more = pre .1 .1 in
-    (pre .0, (more .0, more .1, more .2, sym (c .before .before .takes-values .ensures) ∙ c .before .if2 .left))
+    let pre = c .before .before .before .before .before .before .before .before .before .before .before .before .before .before .before
+    .pre in
+    (pre .0, (pre .1 .0, (pre .1 .1 .0, sym (c .before .before .takes-values .ensures) ∙ c .before .if2 .left)))
 
 same-length-2 : tie.Need-same-length-2
 same-length-2 c = search needs
@@ -55,10 +55,10 @@ returns-3 c =
     let done = c .before .before .plan-without-values .ensures in
     let up = c .before .before .before .before .before .before in
     let is = sym (up .before .upright .ensures) ∙ not-false _ (up .if1 .left) in (
-      λ rows kinds wraps nums ats lens pool regions name banded numbered coded.
-          done .0 rows kinds wraps nums ats lens pool regions name is banded coded ∙ sym (plan-upright _ _ is),
-      λ rows kinds wraps nums ats lens pool regionRows regionCols test.
-          done .1 rows kinds wraps nums ats lens pool regionRows regionCols test is,
+      λ kinds wraps nums ats lens pool regions name banded numbered coded.
+          done .0 kinds wraps nums ats lens pool regions name is banded coded ∙ sym (plan-upright _ _ is),
+      λ kinds wraps nums ats lens pool test.
+          done .1 kinds wraps nums ats lens pool test is,
     )
 
 pub plan-rule-spec : {M : Type 1} → statement M

@@ -20,15 +20,15 @@ same-length-2 c = search needs
 returns : tie.Need-returns
 returns c =
     let done = c .before .before .before .before .plan-rule .ensures in (
-      λ rows kinds wraps nums ats lens pool regions name counter h. done .0 rows kinds wraps nums ats lens pool regions name,
+      λ kinds wraps nums ats lens pool regions name counter h. done .0 kinds wraps nums ats lens pool regions name,
       (done .1, λ test tested. accepted _ (c .before .before .before .before .before .before .before .before .match .keys1)),
     )
 
 returns-2 : tie.Need-returns-2
 returns-2 c = (
-  λ rows kinds wraps nums ats lens pool regions name counter h. absurd (refused-not-within _ (c .match .keys2) counter h),
+  λ kinds wraps nums ats lens pool regions name counter h. absurd (refused-not-within _ (c .match .keys2) counter h),
   (
-    λ rows kinds wraps nums ats lens pool regionRows regionCols test banded band counts coded followed tested.
+    λ kinds wraps nums ats lens pool test banded band counts coded followed tested.
         absurd (untested test tested),
     λ test tested. absurd (untested test tested),
   ),

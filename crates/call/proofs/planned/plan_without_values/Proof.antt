@@ -25,19 +25,19 @@ unfolding isDuplicates
 returns c =
     let done = c .before .before .plan-of-duplicates .ensures in
     let kind = c .before .before .before .before .before .kind .given .1 in (
-      λ rows kinds wraps nums ats lens pool regions name up banded coded.
-          rw kind (done .0 rows kinds wraps nums ats lens pool regions name up banded (coded (rw kind))),
-      λ rows kinds wraps nums ats lens pool regionRows regionCols test up banded band counts coded.
-          done .1 rows kinds wraps nums ats lens pool regionRows regionCols test up banded band coded,
+      λ kinds wraps nums ats lens pool regions name up banded coded.
+          rw kind (done .0 kinds wraps nums ats lens pool regions name up banded (coded (rw kind))),
+      λ kinds wraps nums ats lens pool test up banded band counts coded.
+          done .1 kinds wraps nums ats lens pool test up banded band coded,
     )
 
 returns-2 : tie.Need-returns-2
 returns-2 c =
-    let start = c .before .before .before .before .before .before in
+    let start = c .before .before .before .before .before .before .before .before .before in
     let other = c .before .match .keys2 in (
-      λ rows kinds wraps nums ats lens pool regions name up banded coded.
-          c .plan-of-operands .ensures ∙ sym (planOf-operands _ _ _ other (start .pre .1 .3)),
-      λ rows kinds wraps nums ats lens pool regionRows regionCols test up banded band counts coded followed tested.
+      λ kinds wraps nums ats lens pool regions name up banded coded.
+          c .plan-of-operands .ensures ∙ sym (planOf-operands _ _ _ other (start .pre .1 .1 .1)),
+      λ kinds wraps nums ats lens pool test up banded band counts coded followed tested.
           absurd (true≢false (sym counts ∙ no-duplicates _ other)),
     )
 

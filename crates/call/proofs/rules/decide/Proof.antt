@@ -79,7 +79,7 @@ module _ (c : tie.After-plan-within) where
 
     planned : AsTabled → (n : Counter) → spent ≡ Charged.Within n → c .plan-within .result ≡ plan sheet (start .args .rule)
     planned tabled n e =
-        c .plan-within .ensures .0 _ kinds wraps nums ats lens _ _ _ n e banded (tabled .numbered) (tabled .coded)
+        c .plan-within .ensures .0 kinds wraps nums ats lens _ _ _ n e banded (tabled .numbered) (tabled .coded)
 
 -- ---- the steps
 
@@ -103,15 +103,16 @@ plan-within-requires c κs =
     let pre = begun at .pre in
     let regions = c .before .before .band-of2 .ensures in
     let most = band at .within in (
+      (pre .0 .0, pre .0 .2, most, band at .ordered, omega (arith, most, pre .0 .1), omega (arith, most, pre .0 .3)),
       (
-        band at .ordered,
-        omega (arith, most, pre .0 .1),
-        omega (arith, most, pre .0 .2),
-        omega (arith, most, pre .0 .3),
-      ),
-      (
-        (omega (arith, most, pre .1 .0 .1), omega (arith, most, pre .1 .0 .2)),
-        (pre .1 .0 .0, regions .ordered, omega (arith, regions .within, fit at .for-founds)),
+        (
+          pre .1 .1 .0 .0,
+          fit at .for-cols,
+          regions .within,
+          regions .ordered,
+          omega (arith, regions .within, fit at .for-founds),
+        ),
+        (pre .1 .0 .0, omega (arith, most, pre .1 .0 .1), omega (arith, most, pre .1 .0 .2)),
       ),
     )
 
@@ -137,10 +138,10 @@ test-regions-requires c κs =
     let pre = start at .pre in (
       (pre .0 .0, pre .0 .1, pre .1 .0 .1, pre .0 .2),
       (
-        (among at, pre .1 .1 .0 .1),
+        (pre .1 .1 .0 .0, among at, pre .1 .1 .0 .1),
         fits-kept 0 (length (now (a .region-rows))) (now (a .values)) (now (a .firsts)) (now (a .seconds)) (now (a .founds))
-            (at .plan-within .last .1 .1 .1 .1 .1 .1 .1 .1 .0) (now (a .region-cols)) (now (a .flags)) (length (now (a .hits)))
-            (at .plan-within .kept .1 .1 .1 .1 .1 .1 .1 .1 .0) (pre .1 .1 .1),
+            (at .plan-within .last .1 .1 .1 .1 .1 .1 .1 .1 .1 .1 .1 .0) (now (a .region-cols)) (now (a .flags)) (length (now (a .hits)))
+            (at .plan-within .kept .1 .1 .1 .1 .1 .1 .1 .1 .1 .1 .1 .0) (pre .1 .1 .1),
       ),
     )
 
@@ -211,7 +212,7 @@ returns-3 c =
           (ahead at kinds wraps nums ats lens) (at .plan-within .result) (planned at kinds wraps nums ats lens tabled) (now (a .values)) _
           (tested .test-regions .result) test is
           (tested .test-regions .ensures .0 kinds wraps nums ats lens (tabled .numbered) (tabled .valued)
-          (λ keys. at .plan-within .ensures .1 .0 _ kinds wraps nums ats lens (now (a .pool)) rows cols test
+          (λ keys. at .plan-within .ensures .1 .0 kinds wraps nums ats lens (now (a .pool)) test
           (banded at kinds wraps nums ats lens) (among at) (counted keys) (tabled .coded (counted keys)) (tabled .followed) is)),
       tested .test-regions .ensures .1,
     )

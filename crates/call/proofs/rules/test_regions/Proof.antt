@@ -3,8 +3,8 @@
 -- what is found in the band is what the test says of all regions. Assumes nothing.
 use Prim.Native.Nat.{ℕ, _+_, _-_, _≤_, _<_}
 use native.Mathlib.Omega.{arith}
-use mathlib.Core.Path.{_≡_, sym, ap, _∙_}
-use mathlib.Core.Bool.{Bool, true}
+use mathlib.Core.Path.{_≡_, refl, sym, ap, _∙_}
+use mathlib.Core.Bool.{true}
 use mathlib.Core.List.{List, _++_}
 use mir.Syntax.{w64}
 use mir.Val.{Fits}
@@ -40,7 +40,7 @@ module _ (c : tie.Start) where
   fit = fitting _ _ _ _ _ _ (c .pre .1 .1)
 
   band : let a = c .args in BandOf (a .rule .range) (now (a .region-rows)) (a .regions .from) (a .regions .to)
-  band = c .pre .1 .0 .0
+  band = c .pre .1 .0 .1
 
   -- one more than the regions of the band
   abbrev room : ℕ
@@ -55,50 +55,33 @@ module _ (c : tie.Start) where
   cut : length (take room (now (c .args .hits))) ≡ room
   cut = length-take-le room (now (c .args .hits)) roomy
 
--- ---- what is found
+-- ---- what is known
 
-module _ (c : tie.After-find-hits) where
-  abbrev meaning : tie.After-find-operands
-  meaning = c .before .before .before .before .before .before .before .before .before
-
-  abbrev start : tie.Start
-  start = looking meaning
+module _ (meaning : tie.After-find-operands) where
+  abbrev begun : tie.Start
+  begun = looking meaning
 
   abbrev table : Known
   table =
-      let a = start .args in
+      let a = begun .args in
       known (now (a .values)) (meaning .find-operands .last .1 .1 .1 .1 .1 .1 .1 .1 .1 .1 .1 .0)
       (meaning .find-operands .last .1 .1 .1 .1 .1 .1 .1 .1 .1 .1 .1 .1 .0) (now (a .founds))
 
-  abbrev found : Found
-  found = c .find-hits .result
-
-  -- the table of hits
-  abbrev page : List ℕ
-  page = c .find-hits .last .1 .1 .1 .1 .1 .1 .1 .1 .1 .1 .0
-
-  abbrev rest : List ℕ
-  rest = drop (room start) (now (start .args .hits))
-
   abbrev large : ℕ
-  large = length (take (room start) (now (start .args .hits)))
+  large = length (take (room begun) (now (begun .args .hits)))
 
-  abbrev fitted : Bool
-  fitted =
-      let a = start .args in
-      fitsHits (a .regions .from) (a .regions .to) table (now (a .region-cols)) (now (a .flags)) large
-
-  fits : fitted ≡ true
+  fits : let a = begun .args in
+      fitsHits (a .regions .from) (a .regions .to) table (now (a .region-cols)) (now (a .flags)) large ≡ true
   fits =
-      let a = start .args in
-      let given = fit start in
-      let most = band start .within in
+      let a = begun .args in
+      let given = fit begun in
+      let most = band begun .within in
       let long = meaning .find-operands .kept .1 .1 .1 .1 .1 .1 .1 .1 .1 .1 .1 in
       fits-hits (a .regions .from) (a .regions .to) table (now (a .region-cols)) (now (a .flags)) large
       (record {
-        ordered = band start .ordered;
+        ordered = band begun .ordered;
         few = omega (arith, most, given .few);
-        within = omega (arith, cut start);
+        within = omega (arith, cut begun);
         for-cols = omega (arith, most, given .for-cols);
         for-flags = omega (arith, most, given .for-flags);
         for-values = omega (arith, most, given .for-values);
@@ -107,6 +90,25 @@ module _ (c : tie.After-find-hits) where
         for-founds = omega (arith, most, given .for-founds);
       })
 
+-- ---- what is found
+
+module _ (c : tie.After-find-within) where
+  abbrev meaning : tie.After-find-operands
+  meaning = c .before .before .before .before .before .before .before .before .before
+
+  abbrev start : tie.Start
+  start = looking meaning
+
+  abbrev found : Found
+  found = c .find-within .result
+
+  -- the table of hits
+  abbrev page : List ℕ
+  page = c .find-within .last .1 .1 .1 .1 .1 .1 .1 .1 .1 .1 .0
+
+  abbrev rest : List ℕ
+  rest = drop (room start) (now (start .args .hits))
+
   within : found .unresolved ≡ true → found .at < length (now (start .args .flags))
   within some =
       let a = start .args in
@@ -114,8 +116,9 @@ module _ (c : tie.After-find-hits) where
         arith,
         band start .within,
         fit start .for-flags,
-        found-within table (a .rule .range) (a .test) (a .rule .imported) (now (a .region-cols)) (now (a .flags)) (a .regions .from)
-            (a .regions .to) found fitted fits (c .find-hits .ensures .0 (a .rule .imported)) (band start .ordered) some,
+        found-within (table meaning) (a .rule .range) (a .test) (a .rule .imported) (now (a .region-cols)) (now (a .flags))
+            (a .regions .from) (a .regions .to) found true refl (c .find-within .ensures .0 (a .rule .imported)) (band start .ordered)
+            some,
       )
 
 -- ---- the steps
@@ -137,7 +140,7 @@ returns c =
     let is = c .before .nothing-found .ensures in
     let charged = c .charge-found .ensures in
     let no-hits : c .charge-found .result .count ≡ 0 = omega (arith, charged .1 .0, ap (λ (f : Found). f .count) is) in
-    let none : liveFrom flags 0 (length rows) ≡ 0 = sym (begun .pre .1 .0 .1) ∙ c .before .before .if1 .taken in (
+    let none : liveFrom flags 0 (length rows) ≡ 0 = sym (begun .pre .1 .0 .2) ∙ c .before .before .if1 .taken in (
       λ kinds wraps nums ats lens numbered valued counted.
           let cells = columns (now (a .rows)) (now (a .cols)) kinds wraps nums ats lens in
           let sheet = sheetIn cells rows cols (now (a .pool)) (a .sheet) in
@@ -151,20 +154,23 @@ find-operands-requires c κs =
     let begun = entered (c .before .before .before .before) in
     (begun .pre .0, (band begun, fit begun .for-cols, fit begun .for-values, fit begun .for-firsts, fit begun .for-seconds))
 
-sub-find-hits : tie.Need-sub-find-hits
-sub-find-hits c = band (looking (c .before .before .before .before .before .before .before)) .ordered
+sub-find-within : tie.Need-sub-find-within
+sub-find-within c = band (looking (c .before .before .before .before .before .before .before)) .ordered
 
-add-find-hits : tie.Need-add-find-hits
-add-find-hits c = small (looking (c .before .before .before .before .before .before .before))
+add-find-within : tie.Need-add-find-within
+add-find-within c = small (looking (c .before .before .before .before .before .before .before))
 
-slice-relend-prefix-find-hits : tie.Need-slice-relend-prefix-find-hits
-slice-relend-prefix-find-hits c = roomy (looking (c .before .before .before .before .before .before .before))
+slice-relend-prefix-find-within : tie.Need-slice-relend-prefix-find-within
+slice-relend-prefix-find-within c = roomy (looking (c .before .before .before .before .before .before .before))
 
-slice-aggregate-find-hits : tie.Need-slice-aggregate-find-hits
-slice-aggregate-find-hits c = sym (cut (looking (c .before .before .before .before .before .before .before .before)))
+slice-aggregate-find-within : tie.Need-slice-aggregate-find-within
+slice-aggregate-find-within c = sym (cut (looking (c .before .before .before .before .before .before .before .before)))
 
-find-hits-requires : tie.Need-find-hits-requires
-find-hits-requires c κs = search needs
+find-within-requires : tie.Need-find-within-requires
+find-within-requires c κs =
+    let at = c .before .before .before .before .before .before .before .before in
+    let begun = looking at in
+    ((begun .pre .1 .0 .0, fit begun .for-cols, fit begun .few, band begun .within), fits at)
 
 asked-of-requires : tie.Need-asked-of-requires
 asked-of-requires c κs = within (c .before .before)
@@ -195,28 +201,28 @@ returns-2 c =
     let flags = now (a .flags) in
     let values = now (a .values) in
     let hits = page at ++ rest at in
-    let is = at .find-hits .ensures .0 imported in
-    let held = at .find-hits .ensures .1 imported in
-    let most : to - from ≤ large at = omega (arith, cut begun) in
+    let is = at .find-within .ensures .0 imported in
+    let held = at .find-within .ensures .1 imported in
+    let most : to - from ≤ large (meaning at) = omega (arith, cut begun) in
     let few = c .charge-found2 .ensures .1 in
-    let count = found-few (table at) range (a .test) imported cols flags from to (found at) (fitted at) (fits at) is in (
+    let count = found-few (table (meaning at)) range (a .test) imported cols flags from to (found at) true refl is in (
       λ kinds wraps nums ats lens numbered valued counted.
           let cells = columns (now (a .rows)) (now (a .cols)) kinds wraps nums ats lens in
           let sheet = sheetIn cells rows cols (now (a .pool)) (a .sheet) in
           let meant = meaning at .find-operands .ensures in
-          let knows = known-by cells (now (a .pool)) (a .sheet) (regionsFrom rows cols 0 (length rows)) range (a .test) rows cols (table at)
+          let knows = known-by cells (now (a .pool)) (a .sheet) (regionsFrom rows cols 0 (length rows)) range (a .test) rows cols (table (meaning at))
           valued (meant .0 kinds wraps nums ats lens values (now (a .founds)) numbered valued)
           (meant .1 kinds wraps nums ats lens values (now (a .founds)) numbered valued) counted in
-          found-decides sheet (a .rule) (a .test) rows cols flags (table at) knows (band begun) (found at) (fitted at) (fits at) is
-          (a .alive) (c .before .asked-of .result) (begun .pre .1 .0 .1) (c .before .asked-of .ensures) hits
-          (found-front (table at) range (a .test) imported cols flags from to (found at) (fitted at) (fits at) is (large at) most (page at)
+          found-decides sheet (a .rule) (a .test) rows cols flags (table (meaning at)) knows (band begun) (found at) true refl is
+          (a .alive) (c .before .asked-of .result) (begun .pre .1 .0 .2) (c .before .asked-of .ensures) hits
+          (found-front (table (meaning at)) range (a .test) imported cols flags from to (found at) true refl is (large (meaning at)) most (page at)
           (rest at) held) (a .limit) (a .charged) (c .charge-found2 .result) (λ os. c .charge-found2 .ensures .0 os imported values hits),
       (
         (omega (arith, few .0, count, band begun .within), few .1, few .2),
         λ k h. omega (
           arith,
           band begun .within,
-          found-below (table at) range (a .test) imported cols flags from to (found at) (fitted at) (fits at) is (large at) most (page at)
+          found-below (table (meaning at)) range (a .test) imported cols flags from to (found at) true refl is (large (meaning at)) most (page at)
               (rest at) held (band begun .ordered) k (omega (arith, h, few .0)),
         ),
       ),
@@ -230,11 +236,11 @@ test-regions-spec =
     charge-found-requires
     returns
     find-operands-requires
-    sub-find-hits
-    add-find-hits
-    slice-relend-prefix-find-hits
-    slice-aggregate-find-hits
-    find-hits-requires
+    sub-find-within
+    add-find-within
+    slice-relend-prefix-find-within
+    slice-aggregate-find-within
+    find-within-requires
     asked-of-requires
     charge-found-requires-2
     same-length

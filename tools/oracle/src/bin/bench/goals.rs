@@ -43,9 +43,22 @@ impl Raced {
         (decided - self.checked.decile()).max(decided / 100.0)
     }
 
+    fn decided(&self) -> Decided<'_> {
+        Decided { goal: &self.goal, ours: self.deciding(), original: self.original.decile() }
+    }
+}
+
+/// What both sides take for a job, in microseconds.
+pub struct Decided<'a> {
+    pub goal: &'a Goal,
+    pub ours: f64,
+    pub original: f64,
+}
+
+impl Decided<'_> {
     /// The original's time by ours, cut down to one decimal, so that a goal which is shown to be reached is.
     fn ratio(&self) -> f64 {
-        (self.original.decile() / self.deciding() * 10.0).floor() / 10.0
+        (self.original / self.ours * 10.0).floor() / 10.0
     }
 
     fn reached(&self) -> Option<bool> {
@@ -53,12 +66,20 @@ impl Raced {
     }
 
     fn line(&self) -> String {
-        let Goal { set, kind, goal, job } = &self.goal;
+        let Goal { set, kind, goal, job } = self.goal;
         let goal = goal.map_or("-".to_string(), |goal| goal.to_string());
         let reached = self.reached().map_or("-", |reached| if reached { "yes" } else { "no" });
-        let times = format!("{:.1}\t{:.1}\t{:.1}", self.deciding(), self.original.decile(), self.ratio());
+        let times = format!("{:.1}\t{:.1}\t{:.1}", self.ours, self.original, self.ratio());
         format!("{set}\t{kind}\t{}\t{}\t{times}\t{goal}\t{reached}", job.cells.len(), job.rules.len())
     }
+}
+
+/// Tab-separated, with what of ours is timed in the heading; how many goals are reached goes to standard error.
+pub fn print(timed: &str, jobs: &[Decided]) {
+    println!("set\tkind\tcells\trules\t{timed} µs\tRust µs\tRust / ours\tgoal\treached");
+    jobs.iter().for_each(|job| println!("{}", job.line()));
+    let goals: Vec<bool> = jobs.iter().filter_map(Decided::reached).collect();
+    eprintln!("{} of {} goals reached", goals.iter().filter(|&&reached| reached).count(), goals.len());
 }
 
 /// Microseconds of processor time that one call in ten stays below, tab-separated.
@@ -69,9 +90,6 @@ pub fn table(passes: usize) -> Result<(), String> {
         eprintln!("pass {pass} of {passes}");
         jobs.iter_mut().for_each(|job| job.pass(&clock));
     }
-    println!("set\tkind\tcells\trules\tdeciding µs\tRust µs\tRust / ours\tgoal\treached");
-    jobs.iter().for_each(|job| println!("{}", job.line()));
-    let goals: Vec<bool> = jobs.iter().filter_map(Raced::reached).collect();
-    eprintln!("{} of {} goals reached", goals.iter().filter(|&&reached| reached).count(), goals.len());
+    print("deciding", &jobs.iter().map(Raced::decided).collect::<Vec<_>>());
     Ok(())
 }

@@ -2,6 +2,8 @@
 
 #[cfg(feature = "before")]
 mod before;
+#[cfg(feature = "columns")]
+mod columns;
 mod goals;
 mod lengths;
 mod measure;
@@ -21,8 +23,8 @@ use oracle::write::job_text;
 use lengths::Length;
 use measure::{lent_report, library, Measured};
 
-const USAGE: &str =
-    "usage: bench | bench before | bench goals | bench saves | bench calls library|original divided|over KIND CELLS RULES TIMES";
+const USAGE: &str = "usage: bench | bench before | bench columns [SET KIND CELLS RULES TIMES] | bench goals | bench saves \
+     | bench calls library|original divided|over KIND CELLS RULES TIMES";
 const PASSES: usize = 8;
 /// There are more jobs with goals than in any other table.
 const GOAL_PASSES: usize = 6;
@@ -36,6 +38,10 @@ fn bench(args: &[&str]) -> Result<(), String> {
         [] => all_tables(),
         #[cfg(feature = "before")]
         ["before"] => before::tables(PASSES),
+        #[cfg(feature = "columns")]
+        ["columns"] => columns::table(GOAL_PASSES),
+        #[cfg(feature = "columns")]
+        ["columns", set, kind, cells, rules, times] => columns::profile(set, kind, number(cells)?, number(rules)?, number(times)?),
         ["goals"] => goals::table(GOAL_PASSES),
         ["saves"] => saves::table(PASSES),
         ["calls", side, form, kind, cells, rules, times] => {
