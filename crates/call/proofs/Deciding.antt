@@ -34,6 +34,7 @@ use Rattle.model.specs.Comparison.{usesSecond}
 use Rattle.model.specs.Values.{average}
 use Rattle.model.specs.Rule.{scale2, scale3, bar, rank, against, mean, planOf, plan}
 use Rattle.model.specs.Run.{asked, isUnresolved}
+use Rattle.order.specs.Order.{isDuplicates}
 use Rattle.cells.specs.Columns.{cellsOf, coordinateAt, sheetWith}
 use Rattle.cells.proofs.Operands.{resolved-bare}
 use Rattle.ranges.specs.Turns.{sheetFrom}
@@ -43,7 +44,7 @@ use Rattle.hits.specs.declared.Found.{Found}
 use Rattle.hits.specs.Verdict.{firstOperand, secondOperand}
 use Rattle.hits.specs.Hits.{Known, known, firstAt, secondAt, outcomesBy, hitsFrom, hitsOf, unresolvedFrom, fitsHits, foundIn, liveFrom}
 use Rattle.turns.specs.Step.{outcomesFrom, Judged, judgedAs, judgedOf, judgedIn}
-use Rattle.turns.specs.Step.{Step, isDuplicates, aheadOfRegions, saidStep, stepFrom, stepOf}
+use Rattle.turns.specs.Step.{Step, aheadOfRegions, saidStep, stepFrom, stepOf}
 use Rattle.turns.specs.Knowing.{takesFirst, takesSecond, countsKeys, InRange, Knows}
 use Rattle.turns.specs.Bands.{BandOf}
 use Rattle.turns.specs.Emit.{Paints}

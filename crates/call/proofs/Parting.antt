@@ -14,7 +14,7 @@ use Rattle.model.specs.declared.CfRule.{CfRule}
 use Rattle.model.specs.declared.Plan.{Plan}
 use Rattle.model.specs.declared.Test.{Test}
 use Rattle.plans.specs.Plans.{takesValues}
-use Rattle.turns.specs.Step.{isDuplicates}
+use Rattle.order.specs.Order.{isDuplicates}
 
 pub values-no-duplicates : (k : CfRule) → takesValues k ≡ true → isDuplicates k ≡ false
 unfolding takesValues isDuplicates

@@ -17,7 +17,7 @@ use Rattle.places.specs.Walk.{walkFits}
 use Rattle.keys.specs.Names.{keysHeld, nameOf, namesOf}
 use Rattle.keys.proofs.Naming.{padded-at, keyed-within, first-within, name-keyed, name-none}
 use Rattle.keys.proofs.Keys.{held-length}
-use Rattle.turns.specs.Step.{isDuplicates}
+use Rattle.order.specs.Order.{isDuplicates}
 use Rattle.call.specs.Tables.{numberNamed, Numbered, Followed, Coded, Tabled}
 use Rattle.call.proofs.Tables.{values-of}
 

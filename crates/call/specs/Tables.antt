@@ -23,7 +23,7 @@ use Rattle.cells.specs.Columns.{cellsOf, coordinateAt, entryAt, sheetWith}
 use Rattle.keys.specs.Names.{keysHeld, namesOf}
 use Rattle.hits.specs.Said.{asFloat}
 use Rattle.hits.specs.Hits.{numberAt, columnIn}
-use Rattle.turns.specs.Step.{isDuplicates}
+use Rattle.order.specs.Order.{isDuplicates}
 use Rattle.turns.specs.Knowing.{InRange}
 use Rattle.turns.specs.Bands.{BandOf}
 

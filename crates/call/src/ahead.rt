@@ -21,7 +21,8 @@ ghost use Rattle.model.specs.Rule.{ahead};
 ghost use Rattle.cells.specs.Columns.{columns, cellsOf};
 ghost use Rattle.ranges.specs.Turns.{sheetFrom};
 ghost use Rattle.turns.specs.Bands.{BandOf};
-ghost use Rattle.turns.specs.Step.{isDuplicates, aheadOfRegions};
+ghost use Rattle.order.specs.Order.{isDuplicates};
+ghost use Rattle.turns.specs.Step.{aheadOfRegions};
 
 // Whether the area of an upright range is charged at once.
 fn charges_area(kind: CfRule, range: Range) -> bool

@@ -37,7 +37,7 @@ ghost use Rattle.cells.specs.Columns.{columns, cellsOf};
 ghost use Rattle.ranges.specs.Turns.{sheetFrom};
 ghost use Rattle.plans.specs.Plans.{takesValues, planOfValues};
 ghost use Rattle.turns.specs.Bands.{BandOf};
-ghost use Rattle.turns.specs.Step.{isDuplicates};
+ghost use Rattle.order.specs.Order.{isDuplicates};
 ghost use Rattle.call.specs.Tables.{Numbered, Followed, Banded, Coded, codedFrom, Founded};
 
 // By the values of the range. Where they are the band's floats one by one, these are not copied.

@@ -15,7 +15,6 @@ use charging::Charged;
 use charging::Counter;
 use hits::Found;
 use hits::live;
-use model::CfRule;
 use model::Plan;
 use model::Rgb;
 use model::Rule;
@@ -39,7 +38,7 @@ ghost use Rattle.order.specs.Order.{orderOf, orderedRules};
 ghost use Rattle.cells.specs.Columns.{columns};
 ghost use Rattle.plans.specs.Plans.{isBarTest};
 ghost use Rattle.hits.specs.Hits.{known, hitsFrom, fitsHits, liveFrom};
-ghost use Rattle.turns.specs.Step.{judgedAs, judgedOf, outcomesFrom, isDuplicates, stepFrom, stepOf};
+ghost use Rattle.turns.specs.Step.{judgedAs, judgedOf, outcomesFrom, stepFrom, stepOf};
 ghost use Rattle.turns.specs.Emit.{markColumns, barColumns, Paints};
 ghost use Rattle.turns.specs.Knowing.{countsKeys};
 ghost use Rattle.turns.specs.Bands.{BandOf};
@@ -427,37 +426,9 @@ fn none_yet(start: u64) -> Ran
 
 // ---- all rules
 
-// Whether a kind counts keys.
-fn is_duplicates(kind: CfRule) -> bool
-    ensures { λ r. ⌜ r ≡ isDuplicates kind ⌝ }
-{
-    match kind {
-        CfRule::DuplicateValues { .. } => true,
-        _ => false,
-    }
-}
-
-// Whether one of the first rules counts keys.
-fn any_duplicates(rules: Rules, count: usize) -> bool
-    requires { ⌜ count ≤ 64 ⌝ }
-    ensures { λ r. ⌜ (r ≡ false → (i : ℕ) (d : Rule) → i < count → isDuplicates (getD (rules .records) i d .kind) ≡ false) ⌝ }
-{
-    let mut i = 0;
-    while i < count {
-        let rule = rules.records[i];
-        let kind = rule.kind;
-        if is_duplicates(kind) {
-            return true;
-        }
-        i += 1;
-    }
-    false
-}
-
-// The codes of the keys of the sheet, where one of the first rules counts keys. Else no work is done.
+// The codes of the keys of the sheet, where one of the rules counts keys. Else no work is done.
 fn codes_for(
-    rules: Rules,
-    count: usize,
+    keyed: bool,
     rows: &[u32],
     kinds: &[u8],
     wraps: &[u8],
@@ -466,13 +437,11 @@ fn codes_for(
     lens: &[u32],
     pool: &[u8],
 ) -> [u16; 1024]
-    requires { ⌜ count ≤ 64 ⌝ }
-    ensures coded { λ r. ⌜ ((cols : List ℕ) (i : ℕ) (d : Rule) → i < count → isDuplicates (getD (rules .records) i d .kind) ≡ true
-        → Coded (now (pool .entry)) (columns (now (rows .entry)) cols (now (kinds .entry)) (now (wraps .entry)) (now (nums .entry))
-        (now (ats .entry)) (now (lens .entry))) r) ⌝ }
+    ensures coded { λ r. ⌜ ((cols : List ℕ) → keyed ≡ true → Coded (now (pool .entry)) (columns (now (rows .entry)) cols
+        (now (kinds .entry)) (now (wraps .entry)) (now (nums .entry)) (now (ats .entry)) (now (lens .entry))) r) ⌝ }
     ensures small { λ r. ⌜ ((i : ℕ) → getD r i 0 < 1025) ⌝ }
 {
-    if any_duplicates(rules, count) {
+    if keyed {
         return keys::codes(rows, kinds, wraps, nums, ats, lens, pool);
     }
     [0; 1024]
@@ -614,8 +583,9 @@ pub(crate) fn run(
         (now (colours .entry)) (now (ppms .entry))) (barColumns (now (barrules .entry)) (now (barppms .entry)))) ⌝ }
     ensures scratch { λ _. ⌜ now (scratch .exit) ≡ replicate (length (now (scratch .entry))) zeroF ⌝ }
 {
-    let order = order::order_rules(rules);
-    let count = order::rule_count(rules);
+    let outline = order::outline(rules);
+    let order = outline.order;
+    let count = outline.count;
     let n = rows.len();
     let m = region_rows.len();
     let mut places = [0u16; 1024];
@@ -624,7 +594,7 @@ pub(crate) fn run(
     number_cells(kinds, wraps, nums, ats, lens, &mut floats[..n]);
     let mut values = [0.0; 1024];
     number_regions(&places[..m], &floats[..n], &mut values[..m]);
-    let codes = codes_for(rules, count, rows, kinds, wraps, nums, ats, lens, pool);
+    let codes = codes_for(outline.keyed, rows, kinds, wraps, nums, ats, lens, pool);
     let ran = run_rules(
         rules,
         order,

@@ -1,3 +1,4 @@
 mod Sinking
 mod Indices
 pub mod Laws
+pub mod Keyed

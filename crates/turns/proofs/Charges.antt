@@ -19,8 +19,8 @@ use Rattle.model.specs.declared.Range.{Range}
 use Rattle.model.specs.declared.Rule.{Rule}
 use Rattle.model.specs.Sheet.{Sheet, upright, withinGrid, area}
 use Rattle.model.specs.Rule.{cellsIn, cellCharges, aheadOf, ahead}
+use Rattle.order.specs.Order.{isDuplicates}
 use Rattle.plans.specs.Plans.{takesValues}
-use Rattle.turns.specs.Step.{isDuplicates}
 
 -- ---- one charge after another
 

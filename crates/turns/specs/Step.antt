@@ -7,7 +7,6 @@ use lib.Dec.{eqb}
 use lib.ListN.{length, getD, replicate}
 use Rattle.charging.specs.declared.Charged.{Charged}
 use Rattle.charging.specs.Charge.{one, andThen, spend}
-use Rattle.model.specs.declared.CfRule.{CfRule}
 use Rattle.model.specs.declared.Outcome.{Outcome}
 use Rattle.model.specs.declared.Plan.{Plan}
 use Rattle.model.specs.declared.Rule.{Rule}
@@ -57,17 +56,6 @@ pub record Step : Type 0 where
   pub outcomes : List Outcome
   pub deferred : ℕ
   pub simplified : ℕ
-
--- whether a kind charges an area
-unfoldable pub isDuplicates : CfRule → Bool
-isDuplicates (CfRule.CellIs op first second fill) = false
-isDuplicates (CfRule.ColorScale2 min max) = false
-isDuplicates (CfRule.ColorScale3 min mid max) = false
-isDuplicates (CfRule.DataBar color) = false
-isDuplicates (CfRule.TopBottom number bottom percent fill) = false
-isDuplicates (CfRule.AboveAverage below fill) = false
-isDuplicates (CfRule.DuplicateValues unique fill) = true
-isDuplicates (CfRule.Expression op left right fill) = false
 
 -- what the charges come to with those ahead of the regions
 abbrev pub aheadOfRegions : Sheet → Rule → ℕ → Charged → Charged

@@ -1,6 +1,6 @@
 -- `call::ahead::charges_area` meets its contract: a duplicate rule, or any other. Assumes nothing.
 use borrow.Author.Needs.{needs}
-use Rattle.turns.specs.Step.{isDuplicates}
+use Rattle.order.specs.Order.{isDuplicates}
 use Rattle.turns.proofs.Charges.{no-duplicates}
 use Rattle.call.proofs.ahead.charges_area.Statement.{statement}
 use Rattle.call.proofs.ahead.charges_area.Tie as tie

@@ -2,7 +2,7 @@
 use mathlib.Core.Path.{sym, _∙_}
 use mathlib.Core.Bool.{true≢false}
 use borrow.Author.Needs.{needs}
-use Rattle.turns.specs.Step.{isDuplicates}
+use Rattle.order.specs.Order.{isDuplicates}
 use Rattle.turns.proofs.Charges.{no-duplicates}
 use Rattle.turns.proofs.Planning.{planOf-operands}
 use Rattle.call.proofs.planned.plan_without_values.Statement.{statement}

@@ -9,20 +9,14 @@ use Rattle.call.proofs.Tabling.{coded-small}
 use Rattle.call.proofs.rules.codes_for.Statement.{statement}
 use Rattle.call.proofs.rules.codes_for.Tie as tie
 
-any-duplicates-requires : tie.Need-any-duplicates-requires
-any-duplicates-requires c κs = search needs
-
 codes-requires : tie.Need-codes-requires
 codes-requires c κs = search needs
 
 returns : tie.Need-returns
-returns c = (λ cols i d h e. c .codes .ensures cols, coded-small _ _ _ (c .codes .ensures []))
+returns c = (λ cols e. c .codes .ensures cols, coded-small _ _ _ (c .codes .ensures []))
 
 returns-2 : tie.Need-returns-2
-returns-2 c = (
-  λ cols i d h e. absurd (false≢true (sym (c .before .any-duplicates .ensures (c .if1 .left) i d h) ∙ e)),
-  λ i. omega (arith, zeros-at 1024 i),
-)
+returns-2 c = (λ cols e. absurd (false≢true (sym (c .if1 .left) ∙ e)), λ i. omega (arith, zeros-at 1024 i))
 
 pub codes-for-spec : {M : Type 1} → statement M
-codes-for-spec = tie.close (tie.spec any-duplicates-requires codes-requires returns returns-2)
+codes-for-spec = tie.close (tie.spec codes-requires returns returns-2)

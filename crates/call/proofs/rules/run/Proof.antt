@@ -13,6 +13,7 @@ use borrow.Author.Needs.{needs}
 use Rattle.model.specs.declared.Rule.{Rule}
 use Rattle.model.specs.Ratio.{zeroF}
 use Rattle.model.specs.Sheet.{CellColumns}
+use Rattle.order.proofs.Keyed.{keys-told}
 use Rattle.cells.specs.Columns.{columns}
 use Rattle.places.proofs.Table.{table-finds}
 use Rattle.call.specs.Tables.{numberNamed, Numbered, Followed, Tabled}
@@ -127,22 +128,21 @@ tabled : (c : tie.After-codes-for)
     → let n = c .before .before in
     let w = walked (made n) in
     let a = begun w .args in
-    (i : ℕ) (d : Rule) → i < w .before .before .rule-count .result
+    (i : ℕ) (d : Rule) → i < w .before .before .before .outline .result .count
     → Tabled (cells w) (now (a .pool)) (getD (a .rules .records) i d .kind) (now (a .region-rows)) (now (a .region-cols))
     (places w ++ places-rest w) (numbers (made n)) (values n ++ values-rest n) (c .codes-for .result)
 tabled c i d h =
     let n = c .before .before in
     let w = walked (made n) in
+    let told = w .before .before .before .outline .ensures in
+    let rules = begun w .args .rules in
     tabled-of (cells w) _ _ _ _ _ (followed w) (numbered (made n)) (size (made n)) (named n) _ _ _
-    (c .codes-for .ensures .0 (cells w .cols) i d h)
+    (λ e. c .codes-for .ensures .0 (cells w .cols) (told .1 .1 .1 ∙ keys-told rules i d (omega (arith, h, told .1 .0)) e))
 
 -- ---- the steps
 
-order-rules-requires : tie.Need-order-rules-requires
-order-rules-requires c κs = search needs
-
-rule-count-requires : tie.Need-rule-count-requires
-rule-count-requires c κs = search needs
+outline-requires : tie.Need-outline-requires
+outline-requires c κs = search needs
 
 array-borrow-prefix-places : tie.Need-array-borrow-prefix-places
 array-borrow-prefix-places c = search needs
@@ -216,10 +216,10 @@ run-rules-requires c κs =
     let coded = c .before .before .before .before .before .before .before .before .before .before .before .before in
     let n = coded .before .before in
     let w = walked (made n) in
-    let count = w .before .before in
+    let told = w .before .before .before .outline .ensures in
     let pre = begun w .pre in
     let few : length (coded .codes-for .result) ≡ 1024 = search needs in (
-      (count .before .order-rules .ensures, count .rule-count .ensures .0, count .rule-count .ensures .1),
+      (told .0, told .1 .0, told .1 .1 .0),
       (
         (pre .0 .0, pre .0 .1, pre .0 .2, omega (arith, pre .0 .1, few)),
         (
@@ -271,8 +271,7 @@ pub run-spec : {M : Type 1} → statement M
 run-spec =
     tie.close
     (tie.spec
-    order-rules-requires
-    rule-count-requires
+    outline-requires
     array-borrow-prefix-places
     slice-aggregate-walk-cells
     walk-cells-requires
