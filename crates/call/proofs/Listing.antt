@@ -17,7 +17,8 @@ use Rattle.model.specs.declared.Range.{Range}
 use Rattle.model.specs.declared.Test.{Test}
 use Rattle.hits.specs.declared.Found.{Found}
 use Rattle.hits.specs.Hits.{Known, columnIn, outcomeBy, outcomesBy, hitsOf, foundIn}
-use Rattle.call.specs.Tables.{insideFrom}
+use Rattle.turns.specs.Knowing.{countsKeys}
+use Rattle.call.specs.Tables.{insideFrom, looksAtOperands}
 use Rattle.call.proofs.Jumping.{inside-skips}
 use Rattle.call.proofs.Picking.{inside-few, inside-between, outcome-picked, picked-at-within, picked-few, front-below}
 use Rattle.call.proofs.Picking.{page-front, page-picked, found-picked-unresolved, found-picked-resolved}
@@ -109,12 +110,12 @@ module _ (range : Range) (cols : List ℕ) (from to : ℕ) {list : List ℕ} (is
   pub listed-below : (k : ℕ) → k < length list → from ≤ to → getD list k 0 < to
   listed-below = rw is (λ k h l. omega (arith, inside-between range cols from (to - from) k h .1))
 
--- the short columns have the entries that the list picks
-pub record PickedBy (list : List ℕ) (k' k : Known) (cols' flags' cols flags : List ℕ) : Type 0 where
+-- the short columns have the entries that the list picks, as far as the test looks at them
+pub record PickedBy (t : Test) (list : List ℕ) (k' k : Known) (cols' flags' cols flags : List ℕ) : Type 0 where
   pub value : (j : ℕ) → j < length list → getD (k' .values) j nan ≡ getD (k .values) (getD list j 0) nan
-  pub first : (j : ℕ) → j < length list → getD (k' .firsts) j nan ≡ getD (k .firsts) (getD list j 0) nan
-  pub second : (j : ℕ) → j < length list → getD (k' .seconds) j nan ≡ getD (k .seconds) (getD list j 0) nan
-  pub found : (j : ℕ) → j < length list → getD (k' .founds) j 0 ≡ getD (k .founds) (getD list j 0) 0
+  pub first : looksAtOperands t ≡ true → (j : ℕ) → j < length list → getD (k' .firsts) j nan ≡ getD (k .firsts) (getD list j 0) nan
+  pub second : looksAtOperands t ≡ true → (j : ℕ) → j < length list → getD (k' .seconds) j nan ≡ getD (k .seconds) (getD list j 0) nan
+  pub found : countsKeys t ≡ true → (j : ℕ) → j < length list → getD (k' .founds) j 0 ≡ getD (k .founds) (getD list j 0) 0
   pub col : (j : ℕ) → j < length list → getD cols' j 0 ≡ getD cols (getD list j 0) 0
   pub flag : (j : ℕ) → j < length list → getD flags' j 0 ≡ getD flags (getD list j 0) 0
 
@@ -140,13 +141,13 @@ module _ (k' k : Known) (range : Range) (t : Test) (cols' flags' cols flags : Li
     abbrev ps : List ℕ
     ps = insideFrom range cols from (to - from)
 
-    said : PickedBy ps k' k cols' flags' cols flags → (imported : Bool) (j : ℕ) → j < length ps
+    said : PickedBy t ps k' k cols' flags' cols flags → (imported : Bool) (j : ℕ) → j < length ps
         → outcomeBy k' range t imported cols' flags' j ≡ outcomeBy k range t imported cols flags (getD ps j 0)
     said p imported j h =
-        outcome-picked k' k range t imported cols' flags' cols flags j (getD ps j 0) (p .value j h) (p .first j h) (p .second j h)
-        (p .found j h) (p .col j h) (p .flag j h)
+        outcome-picked k' k range t imported cols' flags' cols flags j (getD ps j 0) (p .value j h)
+        (λ e. p .first e j h) (λ e. p .second e j h) (λ e. p .found e j h) (p .col j h) (p .flag j h)
 
-    back : PickedBy ps k' k cols' flags' cols flags → length ps ≤ room
+    back : PickedBy t ps k' k cols' flags' cols flags → length ps ≤ room
         → ((imported : Bool) → f ≡ foundIn true 0 (shorts imported (length ps)))
         → ((imported : Bool) → page ≡ pageOf true room (hitsOf 0 (shorts imported (length ps)))) → Back ps
     back p small is held =
@@ -169,14 +170,14 @@ module _ (k' k : Known) (range : Range) (t : Test) (cols' flags' cols flags : Li
               (held imported);
         }
 
-    pub told-back : {list : List ℕ} → list ≡ ps → PickedBy list k' k cols' flags' cols flags → length list ≤ room → (n : ℕ)
+    pub told-back : {list : List ℕ} → list ≡ ps → PickedBy t list k' k cols' flags' cols flags → length list ≤ room → (n : ℕ)
         → n ≡ length list → (fitted : Bool) → fitted ≡ true
         → ((imported : Bool) → f ≡ foundIn fitted 0 (shorts imported n))
         → ((imported : Bool) → page ≡ pageOf fitted room (hitsOf 0 (shorts imported n))) → Back list
     told-back {list} listed p small n long fitted fits is held =
         go listed p small (rw (fits, long) at is) (rw (fits, long) at held)
       where
-        go : list ≡ ps → PickedBy list k' k cols' flags' cols flags → length list ≤ room
+        go : list ≡ ps → PickedBy t list k' k cols' flags' cols flags → length list ≤ room
             → ((imported : Bool) → f ≡ foundIn true 0 (shorts imported (length list)))
             → ((imported : Bool) → page ≡ pageOf true room (hitsOf 0 (shorts imported (length list)))) → Back list
         go e = rw e back

@@ -21,7 +21,7 @@ use Rattle.cells.proofs.Operands.{meant-reference}
 use Rattle.hits.specs.Verdict.{firstOperand, secondOperand}
 use Rattle.hits.specs.Said.{asFloat, readingOf}
 use Rattle.hits.specs.Hits.{isLiteral, literalOf, byLiterals}
-use Rattle.turns.specs.Knowing.{takesFirst, takesSecond}
+use Rattle.turns.specs.Knowing.{takesFirst, takesSecond, countsKeys}
 use Rattle.turns.proofs.Known.{resolved-back}
 use Rattle.laws.proofs.Covered.{and-true}
 use Rattle.call.specs.Tables.{numberNamed, Numbered}
@@ -112,3 +112,19 @@ takes-none (Test.TopBottom bottom bound fill) h = (refl, refl)
 takes-none (Test.AboveAverage below bound fill) h = (refl, refl)
 takes-none (Test.DuplicateValues unique fill) h = (refl, refl)
 takes-none (Test.Expression op left right fill) h = absurd (miss withoutOperands 7 tt h)
+
+-- ---- tests that count no keys
+
+abbrev withoutKeys : List ℕ
+withoutKeys = 0 ∷ 1 ∷ 2 ∷ 3 ∷ 4 ∷ 5 ∷ 7 ∷ []
+
+pub counts-none : (t : Test) → OneOf withoutKeys (tagOf test.the-type t) → countsKeys t ≡ false
+unfolding countsKeys
+counts-none (Test.CellIs op first second fill) h = refl
+counts-none (Test.ColorScale2 min max low high) h = refl
+counts-none (Test.ColorScale3 min mid max low middle high) h = refl
+counts-none (Test.DataBar color low high) h = refl
+counts-none (Test.TopBottom bottom bound fill) h = refl
+counts-none (Test.AboveAverage below bound fill) h = refl
+counts-none (Test.DuplicateValues unique fill) h = absurd (miss withoutKeys 6 tt h)
+counts-none (Test.Expression op left right fill) h = refl

@@ -6,24 +6,28 @@ use native.Mathlib.Nat.{not-suc-le-zero, add-zero, zero-add}
 use native.Mathlib.Omega.{arith}
 use mathlib.Core.Path.{_≡_, refl, sym, ap, _∙_}
 use mathlib.Core.Bool.{Bool, true, false, cond, not}
-use mathlib.Core.List.{List, [], _∷_, _++_, map, append-assoc}
+use mathlib.Core.List.{List, [], _∷_, _++_, map}
 use lib.Dec.{eqb}
-use lib.Ieee.{nan}
+use lib.Ieee.{Float, nan}
 use lib.ListN.{length, getD, take, replicate, length-map}
 use lib.Seq.{take-at, getD-take}
 use Rattle.memory.specs.Memory.{pageOf}
 use Rattle.memory.proofs.Laws.{page-fits}
 use Rattle.model.specs.declared.Outcome.{Outcome}
 use Rattle.model.specs.declared.Range.{Range}
+use Rattle.model.specs.declared.Reading.{Reading}
 use Rattle.model.specs.declared.Test.{Test}
 use Rattle.model.specs.Run.{isUnresolved}
 use Rattle.hits.specs.declared.Found.{Found}
-use Rattle.hits.specs.Hits.{Known, verdictBy, columnIn, outcomeBy, outcomesBy, hitsFrom, hitsOf, unresolvedFrom, foundIn}
+use Rattle.hits.specs.Hits.{Known, byLiterals, numberAt, verdictBy, columnIn, outcomeBy, outcomesBy, hitsFrom, hitsOf}
+use Rattle.hits.specs.Hits.{unresolvedFrom, foundIn}
 use Rattle.hits.proofs.Hitting.{outcomes-long}
 use Rattle.hits.proofs.Finding.{found-unresolved, found-resolved, hits-resolved}
+use Rattle.turns.specs.Knowing.{takesFirst, takesSecond, countsKeys}
+use Rattle.turns.proofs.Known.{verdict-needs}
 use Rattle.turns.proofs.Hits.{hits-few, hits-within}
 use Rattle.turns.proofs.Asked.{first-most}
-use Rattle.call.specs.Tables.{insideFrom}
+use Rattle.call.specs.Tables.{insideFrom, looksAtOperands}
 
 -- ---- the indices
 
@@ -53,15 +57,50 @@ module _ (range : Range) (cols : List ℕ) where
 
 -- ---- one region
 
--- what is said of a region whose entries are those of another one
+second-takes-first : (t : Test) → takesSecond t ≡ true → takesFirst t ≡ true
+unfolding takesFirst takesSecond
+second-takes-first (Test.CellIs op first second fill) h = refl
+second-takes-first (Test.ColorScale2 min max low high) h = h
+second-takes-first (Test.ColorScale3 min mid max low middle high) h = h
+second-takes-first (Test.DataBar color low high) h = h
+second-takes-first (Test.TopBottom bottom bound fill) h = h
+second-takes-first (Test.AboveAverage below bound fill) h = h
+second-takes-first (Test.DuplicateValues unique fill) h = h
+second-takes-first (Test.Expression op left right fill) h = refl
+
+-- what an operand reads as, by a literal or by a column that the test looks at
+column-picked : (t : Test) (xs' xs : List Float) (r : Reading) (j p : ℕ) → (looksAtOperands t ≡ true → getD xs' j nan ≡ getD xs p nan)
+    → takesFirst t ≡ true → cond (byLiterals t) r (numberAt xs' j) ≡ cond (byLiterals t) r (numberAt xs p)
+unfolding looksAtOperands
+column-picked t xs' xs r j p same takes = go (byLiterals t) same
+  where
+    go : (b : Bool) → (cond b false (takesFirst t) ≡ true → getD xs' j nan ≡ getD xs p nan)
+        → cond b r (numberAt xs' j) ≡ cond b r (numberAt xs p)
+    go true same = refl
+    go false same = rw (same takes)
+
+verdict-picked : (k' k : Known) (t : Test) (imported : Bool) (j p : ℕ) → getD (k' .values) j nan ≡ getD (k .values) p nan
+    → (looksAtOperands t ≡ true → getD (k' .firsts) j nan ≡ getD (k .firsts) p nan)
+    → (looksAtOperands t ≡ true → getD (k' .seconds) j nan ≡ getD (k .seconds) p nan)
+    → (countsKeys t ≡ true → getD (k' .founds) j 0 ≡ getD (k .founds) p 0)
+    → verdictBy k' t imported j ≡ verdictBy k t imported p
+unfolding verdictBy
+verdict-picked k' k t imported j p value first second found =
+    rw value
+    (verdict-needs t imported _ _ _ _ _ _ _ (column-picked t (k' .firsts) (k .firsts) _ j p first)
+    (λ takes. column-picked t (k' .seconds) (k .seconds) _ j p second (second-takes-first t takes)) found)
+
+-- what is said of a region whose entries are those of another one, in the columns that the test looks at
 pub outcome-picked : (k' k : Known) (range : Range) (t : Test) (imported : Bool) (cols' flags' cols flags : List ℕ) (j p : ℕ)
-    → getD (k' .values) j nan ≡ getD (k .values) p nan → getD (k' .firsts) j nan ≡ getD (k .firsts) p nan
-    → getD (k' .seconds) j nan ≡ getD (k .seconds) p nan → getD (k' .founds) j 0 ≡ getD (k .founds) p 0
+    → getD (k' .values) j nan ≡ getD (k .values) p nan
+    → (looksAtOperands t ≡ true → getD (k' .firsts) j nan ≡ getD (k .firsts) p nan)
+    → (looksAtOperands t ≡ true → getD (k' .seconds) j nan ≡ getD (k .seconds) p nan)
+    → (countsKeys t ≡ true → getD (k' .founds) j 0 ≡ getD (k .founds) p 0)
     → getD cols' j 0 ≡ getD cols p 0 → getD flags' j 0 ≡ getD flags p 0
     → outcomeBy k' range t imported cols' flags' j ≡ outcomeBy k range t imported cols flags p
-unfolding outcomeBy verdictBy
+unfolding outcomeBy
 outcome-picked k' k range t imported cols' flags' cols flags j p value first second found col flag =
-    rw (value, first, second, found, col, flag)
+    rw (verdict-picked k' k t imported j p value first second found, col, flag)
 
 -- ---- outcomes of which the quiet ones may be left out
 
@@ -257,10 +296,6 @@ module _ (k' k : Known) (range : Range) (t : Test) (imported : Bool) (cols' flag
           (short-count ∙ sym (length-map (hitsOf 0 qs) (λ h. getD ps h 0)) ∙ ap length (sym picked-hits-of)
           ∙ ap length (sym (hits-resolved from os (picked-unresolved ∙ e))))
 
-      pub picked-count-none : f .unresolved ≡ true → f .count ≡ 0
-      unfolding hitsOf
-      picked-count-none some = let e : isUnresolved qs ≡ true = sym short-unresolved ∙ some in rw e at short-count
-
       -- the hits at the front of a table
       module _ (hits : List ℕ) (front : take (f .count) hits ≡ hitsOf 0 qs) where
         pub front-picked : map (λ h. getD ps h 0) (take (f .count) hits) ≡ hitsOf from os
@@ -279,13 +314,6 @@ module _ (k' k : Known) (range : Range) (t : Test) (imported : Bool) (cols' flag
 
         pub page-front : take (f .count) page ≡ hitsOf 0 qs
         page-front = ap (take (f .count)) page-is ∙ take-at (hitsOf 0 qs) _ (f .count) (sym short-count)
-
-        -- ahead of what else the table holds
-        pub page-ahead : (rest : List ℕ) → take (f .count) (page ++ rest) ≡ hitsOf 0 qs
-        page-ahead rest =
-            ap (λ (l : List ℕ). take (f .count) (l ++ rest)) page-is
-            ∙ ap (take (f .count)) (append-assoc (hitsOf 0 qs) _ rest)
-            ∙ take-at (hitsOf 0 qs) _ (f .count) (sym short-count)
 
         pub page-picked : map (λ h. getD ps h 0) (take (f .count) page) ≡ hitsOf from os
         page-picked = front-picked page page-front

@@ -2,7 +2,7 @@
 -- cells, the numbers that operands read as, and the codes of the keys. Not-a-number stands for no number. Assumes nothing.
 use Prim.Native.Nat.{ℕ, zero, suc, _+_, _≤_, _<_, min}
 use mathlib.Core.Path.{_≡_}
-use mathlib.Core.Bool.{Bool, true, cond, not, _&&_, _||_}
+use mathlib.Core.Bool.{Bool, true, false, cond, not, _&&_, _||_}
 use mathlib.Core.List.{List, [], _∷_}
 use mathlib.Core.Option.{none}
 use lib.Dec.{eqb}
@@ -14,6 +14,7 @@ use Rattle.model.specs.declared.CfRule.{CfRule}
 use Rattle.model.specs.declared.ConditionalOperand.{ConditionalOperand}
 use Rattle.model.specs.declared.Range.{Range}
 use Rattle.model.specs.declared.Span.{Span}
+use Rattle.model.specs.declared.Test.{Test}
 use Rattle.model.specs.Sheet.{CellColumns, cellFrom, inRange, withinGrid}
 use Rattle.model.specs.Readings.{numericCellValue, numericAt, keyAt}
 use Rattle.model.specs.References.{resolved}
@@ -22,9 +23,9 @@ use Rattle.model.specs.Rule.{cellsIn, keys, times}
 use Rattle.cells.specs.Columns.{cellsOf, coordinateAt, entryAt, sheetWith}
 use Rattle.keys.specs.Names.{keysHeld, namesOf}
 use Rattle.hits.specs.Said.{asFloat}
-use Rattle.hits.specs.Hits.{numberAt, columnIn}
+use Rattle.hits.specs.Hits.{byLiterals, numberAt, columnIn}
 use Rattle.order.specs.Order.{isDuplicates}
-use Rattle.turns.specs.Knowing.{InRange}
+use Rattle.turns.specs.Knowing.{takesFirst, InRange}
 use Rattle.turns.specs.Bands.{BandOf}
 
 -- the number of the cell that an entry of a table of places names
@@ -72,6 +73,10 @@ insideFrom range cols i zero = []
 insideFrom range cols i (suc n) =
     let later = insideFrom range cols (suc i) n in
     cond (columnIn range (getD cols i 0)) (i ∷ later) later
+
+-- whether a test looks at the columns of what its operands read as
+unfoldable pub looksAtOperands : Test → Bool
+looksAtOperands t = cond (byLiterals t) false (takesFirst t)
 
 -- ---- codes of keys
 

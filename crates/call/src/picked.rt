@@ -4,6 +4,7 @@ use crate::Band;
 use crate::bands::is_wide;
 use crate::bands::next_in;
 use hits::Found;
+use hits::by_literals;
 use hits::find_hits;
 use model::Range;
 use model::Test;
@@ -17,7 +18,8 @@ ghost use lib.ListN.{length, getD, take};
 ghost use Rattle.memory.specs.Memory.{pageOf};
 ghost use Rattle.model.specs.Job.{firstFall};
 ghost use Rattle.hits.specs.Hits.{known, outcomesBy, hitsOf, fitsHits, foundIn};
-ghost use Rattle.call.specs.Tables.{insideFrom};
+ghost use Rattle.turns.specs.Knowing.{countsKeys};
+ghost use Rattle.call.specs.Tables.{insideFrom, looksAtOperands};
 
 // ---- the regions in range
 
@@ -54,6 +56,30 @@ fn list_in(range: Range, band: Band, rows: &[u32], cols: &[u16], list: &mut [u16
 
 // ---- columns of them
 
+// Whether a test looks at the columns of what its operands read as.
+fn looks_at_operands(test: Test) -> bool
+    ensures { λ r. ⌜ r ≡ looksAtOperands test ⌝ }
+{
+    if by_literals(test) {
+        return false;
+    }
+    match test {
+        Test::CellIs { .. } => true,
+        Test::Expression { .. } => true,
+        _ => false,
+    }
+}
+
+// Whether a test looks at how often a key is there.
+fn counts_keys(test: Test) -> bool
+    ensures { λ r. ⌜ r ≡ countsKeys test ⌝ }
+{
+    match test {
+        Test::DuplicateValues { .. } => true,
+        _ => false,
+    }
+}
+
 fn pick_floats(list: &[u16], column: &[f64], short: &mut [f64])
     requires { ⌜ ((k : ℕ) → k < length (now list) → getD (now list) k 0 < length (now column)) × (length (now list) ≤ length (now short)) ⌝ }
     ensures { λ _. ⌜ ((k : ℕ) → k < length (now (list .entry))
@@ -87,6 +113,28 @@ fn pick_flags(list: &[u16], column: &[u8], short: &mut [u8])
     while k < list.len() {
         short[k] = column[list[k] as usize];
         k += 1;
+    }
+}
+
+// What an operand reads as, where the test looks at it.
+fn pick_operand(test: Test, list: &[u16], column: &[f64], short: &mut [f64])
+    requires { ⌜ ((k : ℕ) → k < length (now list) → getD (now list) k 0 < length (now column)) × (length (now list) ≤ length (now short)) ⌝ }
+    ensures { λ _. ⌜ (looksAtOperands test ≡ true → (k : ℕ) → k < length (now (list .entry))
+        → getD (now (short .exit)) k nan ≡ getD (now (column .entry)) (getD (now (list .entry)) k 0) nan) ⌝ }
+{
+    if looks_at_operands(test) {
+        pick_floats(list, column, short);
+    }
+}
+
+// How often keys are there, where the test looks at it.
+fn pick_founds(test: Test, list: &[u16], column: &[u16], short: &mut [u16])
+    requires { ⌜ ((k : ℕ) → k < length (now list) → getD (now list) k 0 < length (now column)) × (length (now list) ≤ length (now short)) ⌝ }
+    ensures { λ _. ⌜ (countsKeys test ≡ true → (k : ℕ) → k < length (now (list .entry))
+        → getD (now (short .exit)) k 0 ≡ getD (now (column .entry)) (getD (now (list .entry)) k 0) 0) ⌝ }
+{
+    if counts_keys(test) {
+        pick_numbers(list, column, short);
     }
 }
 
@@ -138,11 +186,11 @@ fn find_listed(
     let mut short_values = [0.0; 128];
     pick_floats(list, values, &mut short_values);
     let mut short_firsts = [0.0; 128];
-    pick_floats(list, firsts, &mut short_firsts);
+    pick_operand(test, list, firsts, &mut short_firsts);
     let mut short_seconds = [0.0; 128];
-    pick_floats(list, seconds, &mut short_seconds);
+    pick_operand(test, list, seconds, &mut short_seconds);
     let mut short_founds = [0u16; 128];
-    pick_numbers(list, founds, &mut short_founds);
+    pick_founds(test, list, founds, &mut short_founds);
     let mut places = [0u16; 129];
     let found = find_hits(
         test,

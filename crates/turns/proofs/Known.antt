@@ -124,7 +124,7 @@ second-needed true a b same say = rw (same refl)
 second-needed false a b same say = refl
 
 -- operands and a count that are the same where the test looks at them
-verdict-needs : (t : Test) (imported : Bool) (value a b c d : Reading) (m n : ℕ) → (takesFirst t ≡ true → a ≡ b)
+pub verdict-needs : (t : Test) (imported : Bool) (value a b c d : Reading) (m n : ℕ) → (takesFirst t ≡ true → a ≡ b)
     → (takesSecond t ≡ true → c ≡ d) → (countsKeys t ≡ true → m ≡ n)
     → verdictOn t imported value a c m ≡ verdictOn t imported value b d n
 unfolding verdictOn takesFirst takesSecond countsKeys cellIs duplicateValues expression

@@ -63,13 +63,13 @@ module _ (c : tie.Start) where
 -- ---- what is found
 
 module _ (c : tie.After-find-hits) where
-  abbrev numbered : tie.After-pick-numbers2
+  abbrev numbered : tie.After-pick-founds
   numbered = c .before .before .before .before .before .before .before .before .before
 
-  abbrev seconded : tie.After-pick-floats3
+  abbrev seconded : tie.After-pick-operand2
   seconded = numbered .before .before .before
 
-  abbrev firsted : tie.After-pick-floats2
+  abbrev firsted : tie.After-pick-operand
   firsted = seconded .before .before .before
 
   abbrev valued : tie.After-pick-floats
@@ -86,8 +86,8 @@ module _ (c : tie.After-find-hits) where
 
   abbrev shorts : Known
   shorts =
-      known (valued .pick-floats .last .1 .1 .0) (firsted .pick-floats2 .last .1 .1 .0) (seconded .pick-floats3 .last .1 .1 .0)
-      (numbered .pick-numbers2 .last .1 .1 .0)
+      known (valued .pick-floats .last .1 .1 .0) (firsted .pick-operand .last .1 .1 .1 .0) (seconded .pick-operand2 .last .1 .1 .1 .0)
+      (numbered .pick-founds .last .1 .1 .1 .0)
 
   abbrev cols : List ℕ
   cols = columned .pick-numbers .last .1 .1 .0
@@ -121,9 +121,9 @@ module _ (c : tie.After-find-hits) where
         for-cols = omega (arith, columned .pick-numbers .kept .1 .1 .0);
         for-flags = omega (arith, flagged .pick-flags .kept .1 .1 .0);
         for-values = omega (arith, valued .pick-floats .kept .1 .1 .0);
-        for-firsts = omega (arith, firsted .pick-floats2 .kept .1 .1 .0);
-        for-seconds = omega (arith, seconded .pick-floats3 .kept .1 .1 .0);
-        for-founds = omega (arith, numbered .pick-numbers2 .kept .1 .1 .0);
+        for-firsts = omega (arith, firsted .pick-operand .kept .1 .1 .1 .0);
+        for-seconds = omega (arith, seconded .pick-operand2 .kept .1 .1 .1 .0);
+        for-founds = omega (arith, numbered .pick-founds .kept .1 .1 .1 .0);
       })
 
   back : let a = start .args in
@@ -136,9 +136,9 @@ module _ (c : tie.After-find-hits) where
       page (fit start .ordered) 129 (start .pre .0 .0)
       (record {
         value = valued .pick-floats .ensures;
-        first = firsted .pick-floats2 .ensures;
-        second = seconded .pick-floats3 .ensures;
-        found = numbered .pick-numbers2 .ensures;
+        first = firsted .pick-operand .ensures;
+        second = seconded .pick-operand2 .ensures;
+        found = numbered .pick-founds .ensures;
         col = columned .pick-numbers .ensures;
         flag = flagged .pick-flags .ensures;
       })
@@ -170,23 +170,23 @@ slice-aggregate-pick-floats c = search needs
 pick-floats-requires : tie.Need-pick-floats-requires
 pick-floats-requires c κs = let s = at-values c in picks s _ (fit s .for-values)
 
-slice-aggregate-pick-floats-2 : tie.Need-slice-aggregate-pick-floats-2
-slice-aggregate-pick-floats-2 c = search needs
+slice-aggregate-pick-operand : tie.Need-slice-aggregate-pick-operand
+slice-aggregate-pick-operand c = search needs
 
-pick-floats-requires-2 : tie.Need-pick-floats-requires-2
-pick-floats-requires-2 c κs = let s = at-firsts c in picks s _ (fit s .for-firsts)
+pick-operand-requires : tie.Need-pick-operand-requires
+pick-operand-requires c κs = let s = at-firsts c in picks s _ (fit s .for-firsts)
 
-slice-aggregate-pick-floats-3 : tie.Need-slice-aggregate-pick-floats-3
-slice-aggregate-pick-floats-3 c = search needs
+slice-aggregate-pick-operand-2 : tie.Need-slice-aggregate-pick-operand-2
+slice-aggregate-pick-operand-2 c = search needs
 
-pick-floats-requires-3 : tie.Need-pick-floats-requires-3
-pick-floats-requires-3 c κs = let s = at-seconds c in picks s _ (fit s .for-seconds)
+pick-operand-requires-2 : tie.Need-pick-operand-requires-2
+pick-operand-requires-2 c κs = let s = at-seconds c in picks s _ (fit s .for-seconds)
 
-slice-aggregate-pick-numbers-2 : tie.Need-slice-aggregate-pick-numbers-2
-slice-aggregate-pick-numbers-2 c = search needs
+slice-aggregate-pick-founds : tie.Need-slice-aggregate-pick-founds
+slice-aggregate-pick-founds c = search needs
 
-pick-numbers-requires-2 : tie.Need-pick-numbers-requires-2
-pick-numbers-requires-2 c κs = let s = at-founds c in picks s _ (fit s .for-founds)
+pick-founds-requires : tie.Need-pick-founds-requires
+pick-founds-requires c κs = let s = at-founds c in picks s _ (fit s .for-founds)
 
 slice-aggregate-find-hits : tie.Need-slice-aggregate-find-hits
 slice-aggregate-find-hits c = search needs
@@ -270,12 +270,12 @@ find-listed-spec =
     pick-numbers-requires
     slice-aggregate-pick-floats
     pick-floats-requires
-    slice-aggregate-pick-floats-2
-    pick-floats-requires-2
-    slice-aggregate-pick-floats-3
-    pick-floats-requires-3
-    slice-aggregate-pick-numbers-2
-    pick-numbers-requires-2
+    slice-aggregate-pick-operand
+    pick-operand-requires
+    slice-aggregate-pick-operand-2
+    pick-operand-requires-2
+    slice-aggregate-pick-founds
+    pick-founds-requires
     slice-aggregate-find-hits
     slice-aggregate-find-hits-2
     slice-aggregate-find-hits-3
