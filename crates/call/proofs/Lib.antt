@@ -2,6 +2,7 @@ pub mod Seeking
 pub mod Banding
 pub mod Jumping
 pub mod Filling
+pub mod Numbering
 pub mod Tables
 pub mod Meaning
 pub mod Parting

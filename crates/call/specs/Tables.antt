@@ -10,12 +10,13 @@ use lib.Ieee.{Float, nan}
 use lib.ListN.{length, getD}
 use Rattle.model.specs.declared.A1Reference.{A1Reference}
 use Rattle.model.specs.declared.Axis.{Axis}
+use Rattle.model.specs.declared.Cell.{Cell}
 use Rattle.model.specs.declared.CfRule.{CfRule}
 use Rattle.model.specs.declared.ConditionalOperand.{ConditionalOperand}
 use Rattle.model.specs.declared.Range.{Range}
 use Rattle.model.specs.declared.Span.{Span}
 use Rattle.model.specs.declared.Test.{Test}
-use Rattle.model.specs.Sheet.{CellColumns, cellFrom, inRange, withinGrid}
+use Rattle.model.specs.Sheet.{CellColumns, valueOf, cellFrom, inRange, withinGrid}
 use Rattle.model.specs.Readings.{numericCellValue, numericAt, keyAt}
 use Rattle.model.specs.References.{resolved}
 use Rattle.model.specs.Job.{firstFall}
@@ -27,6 +28,10 @@ use Rattle.hits.specs.Hits.{byLiterals, numberAt, columnIn}
 use Rattle.order.specs.Order.{isDuplicates}
 use Rattle.turns.specs.Knowing.{takesFirst, InRange}
 use Rattle.turns.specs.Bands.{BandOf}
+
+-- a cell from the entries of its columns
+abbrev pub cellOf : ℕ → ℕ → ℕ → ℕ → ℕ → Cell
+cellOf kind wraps bits at len = record { value = valueOf kind bits at len; wraps = wraps }
 
 -- the number of the cell that an entry of a table of places names
 unfoldable pub numberNamed : List Float → ℕ → Float

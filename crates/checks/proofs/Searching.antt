@@ -1,8 +1,8 @@
 -- One turn of a search for the first index at which a test holds: found here, passed, or ended. `whole` is what the search finds from
 -- its start on, and stays what it finds from i on. First of the numbers below n, then of a job's rules. Assumes nothing.
 use Prim.Native.Nat.{ℕ, suc, _+_, _-_, _≤_, _<_, min}
-use mathlib.Core.Path.{_≡_, sym, ap, _∙_}
-use mathlib.Core.Bool.{Bool, true, false}
+use mathlib.Core.Path.{_≡_, refl, sym, ap, _∙_}
+use mathlib.Core.Bool.{Bool, true, false, _||_, true≢false}
 use mathlib.Core.List.{List, _∷_, map}
 use mathlib.Core.Option.{Option}
 use native.Mathlib.Numerals.{add-one}
@@ -29,6 +29,13 @@ module _ (test : ℕ → Bool) (n i : ℕ) {whole : Option ℕ} (same : firstFro
   pub numbers-ended : n ≤ i → Found.Nothing ≡ found whole
   unfolding firstFrom
   numbers-ended h = let e : n - i ≡ 0 = omega arith in ap found (rw e at same)
+
+-- a search for whether there is any: `bad` says whether the test held at one that was passed
+pub none-passed : (test : ℕ → Bool) (n i : ℕ) {whole : Option ℕ} (bad : Bool) {here : Bool}
+    → (bad ≡ false → firstFrom test i (n - i) ≡ whole) → i < n → here ≡ test i → bad || here ≡ false
+    → firstFrom test (i + 1) (n - (i + 1)) ≡ whole
+none-passed test n i true same h e o = absurd (true≢false o)
+none-passed test n i false same h e o = number-passed test n i (same refl) h (sym e ∙ o)
 
 module _
     (pool : List ℕ)

@@ -1,5 +1,6 @@
--- `call::numbers::number_cells` meets its contract. The loop's invariant: up to i there is the number of each cell; where the cells
--- stand does not count for it. The measure is what is left of the numbers. Assumes nothing.
+-- `call::numbers::number_cells` meets its contract, by what `number_all` ensures where no column is shorter than the numbers. The loop's
+-- invariant: up to i there is the number of each cell; where the cells stand does not count for it. The measure is what is left of the
+-- numbers. Assumes nothing.
 use Prim.Native.Nat.{ℕ, _-_}
 use mathlib.Core.Path.{refl, ap, _∙_}
 use mathlib.Core.List.{[]}
@@ -16,11 +17,20 @@ use Rattle.call.proofs.numbers.number_cells.Statement.{statement}
 use Rattle.call.proofs.numbers.number_cells.Tie as tie
 
 abbrev Inv-loop : tie.InvT-loop
-Inv-loop kinds wraps nums ats lens floats₀ i₀ floats i =
+Inv-loop kinds wraps nums ats lens floats₀ n i₀ floats i =
     Filled nan (λ (k : ℕ). asFloat (numericCellValue (cellFrom (columns [] [] kinds wraps nums ats lens) k .cell))) floats₀ floats i
 
 abbrev μ-loop : tie.MeasureT-loop
-μ-loop kinds wraps nums ats lens floats₀ i₀ floats i = length floats₀ - i
+μ-loop kinds wraps nums ats lens floats₀ n i₀ floats i = length floats₀ - i
+
+number-all-requires : tie.Need-number-all-requires Inv-loop μ-loop
+number-all-requires c κs = search needs
+
+same-length : tie.Need-same-length Inv-loop μ-loop
+same-length c = search needs
+
+returns : tie.Need-returns Inv-loop μ-loop
+returns c rows cols i h = c .before .before .number-all .ensures rows cols _ _ i h
 
 loop-holds : tie.Need-loop-holds Inv-loop μ-loop
 loop-holds c = filled-begun
@@ -53,12 +63,12 @@ loop-again c =
     filled-more (cell .before .before .loop .inv) (omega arith)
     (c .float-of .ensures ∙ ap asFloat (value .numeric-cell-value .ensures ∙ ap numericCellValue (cell .cell-from .ensures [] [])))
 
-same-length : tie.Need-same-length Inv-loop μ-loop
-same-length c = c .before .loop .inv .long
+same-length-2 : tie.Need-same-length-2 Inv-loop μ-loop
+same-length-2 c = c .before .loop .inv .long
 
-returns : tie.Need-returns Inv-loop μ-loop
+returns-2 : tie.Need-returns-2 Inv-loop μ-loop
 unfolding cellFrom
-returns c rows cols i h = c .before .loop .inv .filled i (omega (arith, c .loop-test .left)) refl
+returns-2 c rows cols i h = c .before .loop .inv .filled i (omega (arith, c .loop-test .left)) refl
 
 pub number-cells-spec : {M : Type 1} → statement M
 number-cells-spec =
@@ -66,6 +76,9 @@ number-cells-spec =
     (tie.spec
     Inv-loop
     μ-loop
+    number-all-requires
+    same-length
+    returns
     loop-holds
     cell-from-requires
     numeric-cell-value-requires
@@ -75,5 +88,5 @@ number-cells-spec =
     add-i
     loop-less
     loop-again
-    same-length
-    returns)
+    same-length-2
+    returns-2)
