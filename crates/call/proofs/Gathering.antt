@@ -1,5 +1,5 @@
 -- The loop that gathers numbers: each float of the band is stored behind those kept so far, and stays there only if the cell is in range
--- and the float is a number, which is where the cell has one. And where each cell of the band is in range and each float is a number, the
+-- and the float is a number, which is where the cell has one. And where each cell of the band is in range and all floats are numbers, the
 -- numbers in range are the band's floats. Assumes nothing.
 use Prim.Native.Nat.{ℕ, zero, suc, _+_, _-_, _≤_, _<_}
 use native.Mathlib.Nat.{add-zero, zero-add}
@@ -10,8 +10,8 @@ use mathlib.Core.Bool.{Bool, true, false, cond, _&&_}
 use mathlib.Core.List.{List, [], _∷_, _++_, foldr, append-assoc, append-nil}
 use mir.Val.{boolByte}
 use lib.Ieee.{Float, nan, eq}
-use lib.ListN.{length, getD, take, drop, set, length-take}
-use lib.Seq.{take-suc-set, take-set-le, drop-cons}
+use lib.ListN.{length, getD, take, drop, set, length-drop}
+use lib.Seq.{take-suc-set, take-set-le, drop-cons, getD-take, getD-drop, length-take-le}
 use Rattle.model.specs.declared.Range.{Range}
 use Rattle.model.specs.declared.Reading.{Reading}
 use Rattle.model.specs.Sheet.{CellColumns, cellFrom}
@@ -23,7 +23,7 @@ use Rattle.hits.specs.Said.{readingOf}
 use Rattle.hits.specs.Hits.{columnIn}
 use Rattle.turns.specs.Bands.{BandOf}
 use Rattle.turns.proofs.Known.{numeric-back}
-use Rattle.call.specs.Tables.{Numbered}
+use Rattle.call.specs.Tables.{Numbered, NumbersIn, AllNumbers}
 use Rattle.call.proofs.Banding.{band-begins, band-ends, band-at, band-skips}
 
 -- ---- one cell
@@ -119,13 +119,30 @@ among-few (x ∷ xs) = go (eq x x) (among-few xs)
     go false h = omega arith
 
 -- where all are numbers, the first is, and all behind it
-number-first : (x : Float) (xs : List Float) (n : ℕ) → length xs ≤ n → numbersAmong (x ∷ xs) ≡ suc n
-    → (eq x x ≡ true) × (numbersAmong xs ≡ n)
-number-first x xs n h e = go (eq x x) refl e
+number-first : (x : Float) (xs : List Float) → numbersAmong (x ∷ xs) ≡ suc (length xs)
+    → (eq x x ≡ true) × (numbersAmong xs ≡ length xs)
+number-first x xs e = go (eq x x) refl e
   where
-    go : (b : Bool) → eq x x ≡ b → cond b (suc (numbersAmong xs)) (numbersAmong xs) ≡ suc n → (eq x x ≡ true) × (numbersAmong xs ≡ n)
+    go : (b : Bool) → eq x x ≡ b → cond b (suc (numbersAmong xs)) (numbersAmong xs) ≡ suc (length xs)
+        → (eq x x ≡ true) × (numbersAmong xs ≡ length xs)
     go true p q = (p, omega arith)
     go false p q = absurd (omega (arith, among-few xs))
+
+-- as many numbers as floats
+pub all-counted : (xs : List Float) → numbersAmong xs ≡ length xs → AllNumbers xs
+all-counted [] e i b h = absurd (omega arith)
+all-counted (x ∷ xs) e zero b h = number-first x xs e .0
+all-counted (x ∷ xs) e (suc i) b h = all-counted xs (number-first x xs e .1) i (omega arith) (omega arith)
+
+-- a part of which all are
+pub part-numbers : (floats : List Float) (from to : ℕ) → from ≤ to → to ≤ length floats
+    → AllNumbers (take (to - from) (drop from floats)) → NumbersIn from to floats
+part-numbers floats from to ordered long all i a b =
+    let within : i - from < to - from = omega arith in
+    let there : from + (i - from) ≡ i = omega arith in
+    let count : to - from ≤ length (drop from floats) = omega (arith, length-drop from floats) in
+    let same = getD-take (to - from) (drop from floats) (i - from) nan within ∙ getD-drop from floats (i - from) nan in
+    rw (same, there) at (all (i - from) (omega arith) (omega (arith, length-take-le (to - from) (drop from floats) count)))
 
 -- ---- a band of numbers in range
 
@@ -154,24 +171,22 @@ module _ {range : Range} (c : CellColumns) {from to : ℕ} (band : BandOf range 
       go true p = (p, omega (arith, ap length (left-within range c i h p)))
       go false p = absurd (omega (arith, ap length (left-outside range c i h p), few-left n (i + 1) (omega arith)))
 
-  module _ (floats : List Float) (numbered : Numbered c floats) (long : to ≤ length floats) where
-    -- of the n cells left of the band all are in range, and all floats are numbers
-    all-left : (n i : ℕ) → i + n ≡ to → length (inRangeFrom range c i) ≡ n → numbersAmong (take n (drop i floats)) ≡ n
+  module _ (floats : List Float) (numbered : Numbered c floats) (long : to ≤ length floats) (numeric : NumbersIn from to floats) where
+    -- of the n cells left of the band all are in range
+    all-left : (n i : ℕ) → from ≤ i → i + n ≡ to → length (inRangeFrom range c i) ≡ n
         → take n (drop i floats) ≡ numbers (inRangeFrom range c i)
     unfolding numbers
-    all-left zero i e inside are = let end : i ≡ to = omega arith in rw (end, band-ends c band)
-    all-left (suc n) i e inside are =
+    all-left zero i b e inside = let end : i ≡ to = omega arith in rw (end, band-ends c band)
+    all-left (suc n) i b e inside =
         let parts : take (suc n) (drop i floats) ≡ getD floats i nan ∷ take n (drop (i + 1) floats)
         = rw (add-one, drop-cons floats i nan (omega arith)) in
         let here = inside-first n i e inside in
-        let number = number-first (getD floats i nan) (take n (drop (i + 1) floats)) n
-        (omega (arith, length-take n (drop (i + 1) floats))) (rw parts at are) in
         parts
-        ∙ rw (all-left n (i + 1) (omega arith) (here .1) (number .1))
-        (sym (here-first range c floats numbered i (omega (arith, band .within)) true (here .0) ∙ rw (number .0)))
+        ∙ rw (all-left n (i + 1) (omega arith) (omega arith) (here .1))
+        (sym (here-first range c floats numbered i (omega (arith, band .within)) true (here .0) ∙ rw (numeric i b (omega arith))))
 
-    pub all-in-band : length (cellsIn range (cellsOf c)) ≡ to - from → numbersAmong (take (to - from) (drop from floats)) ≡ to - from
+    pub all-in-band : length (cellsIn range (cellsOf c)) ≡ to - from
         → take (to - from) (drop from floats) ≡ numbers (cellsIn range (cellsOf c))
-    all-in-band inside are =
-        all-left (to - from) from (omega (arith, band .ordered)) (ap length (sym (band-begins c band)) ∙ inside) are
+    all-in-band inside =
+        all-left (to - from) from (omega arith) (omega (arith, band .ordered)) (ap length (sym (band-begins c band)) ∙ inside)
         ∙ ap numbers (sym (band-begins c band))

@@ -6,7 +6,7 @@ use mathlib.Core.Bool.{Bool, true, false, cond, not, _&&_, _||_}
 use mathlib.Core.List.{List, [], _∷_}
 use mathlib.Core.Option.{none}
 use lib.Dec.{eqb}
-use lib.Ieee.{Float, nan}
+use lib.Ieee.{Float, nan, eq}
 use lib.ListN.{length, getD}
 use Rattle.model.specs.declared.A1Reference.{A1Reference}
 use Rattle.model.specs.declared.Axis.{Axis}
@@ -23,6 +23,7 @@ use Rattle.model.specs.Job.{firstFall}
 use Rattle.model.specs.Rule.{cellsIn, keys, times}
 use Rattle.cells.specs.Columns.{cellsOf, coordinateAt, entryAt, sheetWith}
 use Rattle.keys.specs.Names.{keysHeld, namesOf}
+use Rattle.plans.specs.Plans.{takesValues}
 use Rattle.hits.specs.Said.{asFloat}
 use Rattle.hits.specs.Hits.{byLiterals, numberAt, columnIn}
 use Rattle.order.specs.Order.{isDuplicates}
@@ -41,6 +42,14 @@ numberNamed numbers (suc place) = getD numbers place nan
 -- the number of each cell
 abbrev pub Numbered : CellColumns → List Float → Type 0
 Numbered c numbers = (j : ℕ) → j < length (c .rows) → getD numbers j nan ≡ asFloat (numericCellValue (cellFrom c j .cell))
+
+-- each float of a part is a number
+abbrev pub NumbersIn : ℕ → ℕ → List Float → Type 0
+NumbersIn from to floats = (i : ℕ) → from ≤ i → i < to → eq (getD floats i nan) (getD floats i nan) ≡ true
+
+-- each float is
+abbrev pub AllNumbers : List Float → Type 0
+AllNumbers floats = NumbersIn 0 (length floats) floats
 
 -- the place of each region's cell
 abbrev pub Followed : CellColumns → List ℕ → List ℕ → List ℕ → Type 0
@@ -71,6 +80,14 @@ pub record Banded (range : Range) (c : CellColumns) (from to : ℕ) : Type 0 whe
   pub rise : firstFall (c .rows) (c .cols) ≡ none
   pub few : length (c .rows) ≤ 1024
   pub band : BandOf range (c .rows) from to
+
+-- whether a kind asks how many cells are in range: it takes values, or counts keys
+unfoldable pub asksCells : CfRule → Bool
+asksCells kind = takesValues kind || isDuplicates kind
+
+-- how many cells are in range, where a kind asks for them
+abbrev pub CellsCounted : CfRule → Range → CellColumns → ℕ → Type 0
+CellsCounted kind range c inside = asksCells kind ≡ true → inside ≡ length (cellsIn range (cellsOf c))
 
 -- the indices of the n regions from index i on whose column is the range's
 unfoldable pub insideFrom : Range → List ℕ → ℕ → ℕ → List ℕ

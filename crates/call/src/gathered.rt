@@ -1,7 +1,5 @@
 // The numbers of the cells in range: conditional_numeric_values (conditional.rs) without its charges.
 use crate::Band;
-use crate::bands::cells_in;
-use crate::bands::is_wide;
 use crate::bands::next_in;
 use model::Range;
 ghost use Prim.Native.Nat.{ℕ, suc, _≤_, _-_};
@@ -10,12 +8,12 @@ ghost use mathlib.Core.Bool.{true, cond};
 ghost use mathlib.Core.List.{List, foldr};
 ghost use mathlib.Core.Option.{none};
 ghost use lib.Ieee.{eq};
-ghost use lib.ListN.{length, take, drop};
+ghost use lib.ListN.{length, take};
 ghost use Rattle.model.specs.Job.{firstFall};
 ghost use Rattle.model.specs.Rule.{cellsIn, numbers};
 ghost use Rattle.cells.specs.Columns.{columns, cellsOf};
 ghost use Rattle.turns.specs.Bands.{BandOf};
-ghost use Rattle.call.specs.Tables.{Numbered};
+ghost use Rattle.call.specs.Tables.{Numbered, AllNumbers, NumbersIn};
 
 // How many numbers the cells in range have, and the numbers in sheet order at the front of `values`. Each float is stored, and stays only
 // if it is a number. From a cell out of range the way to the next that is in it is as long as it was from row to row before.
@@ -57,7 +55,7 @@ pub(crate) fn gather(
     count
 }
 
-// How many floats of a band are numbers.
+// How many floats are numbers.
 fn count_numbers(floats: &[f64]) -> u64
     ensures { λ r. ⌜ r ≡ foldr (λ x later. cond (eq x x) (suc later) later) 0 (now (floats .entry)) ⌝ }
 {
@@ -71,23 +69,26 @@ fn count_numbers(floats: &[f64]) -> u64
     count
 }
 
-// Whether each cell of the band is in range and has a number: then the numbers in range are the band's floats. Each count is a loop of its
-// own, so that several cells are looked at in one step.
-pub(crate) fn all_numbers(range: Range, band: Band, cols: &[u16], floats: &[f64]) -> bool
-    requires { ⌜ (band .from ≤ band .to) × (band .to ≤ 1024) × (band .to ≤ length (now cols)) × (band .to ≤ length (now floats)) ⌝ }
-    ensures { λ r. ⌜ ((rows kinds wraps nums ats lens : List ℕ) → BandOf range rows (band .from) (band .to)
-        → Numbered (columns rows (now (cols .entry)) kinds wraps nums ats lens) (now (floats .entry)) → r ≡ true
-        → take (band .to - band .from) (drop (band .from) (now (floats .entry)))
-        ≡ numbers (cellsIn range (cellsOf (columns rows (now (cols .entry)) kinds wraps nums ats lens)))) ⌝ }
+// Whether all floats are numbers. They are counted in a loop without a way out, so that several are looked at in one step.
+pub(crate) fn all_numeric(floats: &[f64]) -> bool
+    ensures { λ r. ⌜ (r ≡ true → AllNumbers (now (floats .entry))) ⌝ }
+{
+    count_numbers(floats) == floats.len() as u64
+}
+
+// Whether the numbers in range are the floats of a band: each cell of it is in range and has a number. The floats are looked at only where it
+// is not told of all cells that they have numbers.
+pub(crate) fn are_values(inside: usize, numeric: bool, band: Band, floats: &[f64]) -> bool
+    requires { ⌜ (band .from ≤ band .to) × (band .to ≤ length (now floats)) × (numeric ≡ true → AllNumbers (now floats)) ⌝ }
+    ensures { λ r. ⌜ (r ≡ true → (inside ≡ band .to - band .from) × NumbersIn (band .from) (band .to) (now (floats .entry))) ⌝ }
 {
     let from = band.from;
     let to = band.to;
-    let n = to - from;
-    if !is_wide(range, band, cols) {
+    if inside != to - from {
         return false;
     }
-    if cells_in(range, band, cols) != n {
-        return false;
+    if numeric {
+        return true;
     }
-    count_numbers(&floats[from..to]) == n as u64
+    all_numeric(&floats[from..to])
 }

@@ -1,8 +1,7 @@
 // What a rule comes to, by the tables of the job, with the values of its range in lent scratch.
 use crate::Band;
-use crate::bands::cells_in;
 use crate::counts::count_keys;
-use crate::gathered::all_numbers;
+use crate::gathered::are_values;
 use crate::gathered::gather;
 use charging::Charged;
 use model::CfRule;
@@ -32,33 +31,37 @@ ghost use Rattle.model.specs.declared.Span.{Span};
 ghost use Rattle.model.specs.declared.Test.{Test};
 ghost use Rattle.model.specs.Job.{firstFall};
 ghost use Rattle.model.specs.Rule.{cellsIn, numbers, covered, planOf, plan};
-ghost use Rattle.model.specs.Sheet.{upright};
+ghost use Rattle.model.specs.Sheet.{CellColumns, upright};
 ghost use Rattle.cells.specs.Columns.{columns, cellsOf};
 ghost use Rattle.ranges.specs.Turns.{sheetFrom};
 ghost use Rattle.plans.specs.Plans.{takesValues, planOfValues};
 ghost use Rattle.turns.specs.Bands.{BandOf};
 ghost use Rattle.order.specs.Order.{isDuplicates};
-ghost use Rattle.call.specs.Tables.{Numbered, Followed, Banded, Coded, codedFrom, Founded};
+ghost use Rattle.call.specs.Tables.{Numbered, AllNumbers, Followed, Banded, CellsCounted, Coded, codedFrom, Founded};
 
-// By the values of the range. Where they are the band's floats one by one, these are not copied.
+// By the values of the range. Where each cell of the band is in range and has a number, the values are the band's floats one by one, which
+// are not copied.
 fn plan_by_values(
     kind: CfRule,
     range: Range,
     band: Band,
+    inside: usize,
+    numeric: bool,
     rows: &[u32],
     cols: &[u16],
     floats: &[f64],
     scratch: &mut [f64],
 ) -> Plan
     requires { ⌜ (firstFall (now rows) (now cols) ≡ none) × (length (now rows) ≤ length (now cols)) × (band .from ≤ band .to)
-        × (band .to ≤ 1024) × (band .to ≤ length (now rows)) × (band .to ≤ length (now floats))
-        × (band .to - band .from ≤ length (now scratch)) ⌝ }
+        × (band .to ≤ length (now rows)) × (band .to ≤ length (now floats)) × (band .to - band .from ≤ length (now scratch)) ⌝ }
+    requires { ⌜ (numeric ≡ true → AllNumbers (now floats)) ⌝ }
     ensures { λ r. ⌜ ((kinds wraps nums ats lens : List ℕ) → BandOf range (now (rows .entry)) (band .from) (band .to)
+        → inside ≡ length (cellsIn range (cellsOf (columns (now (rows .entry)) (now (cols .entry)) kinds wraps nums ats lens)))
         → Numbered (columns (now (rows .entry)) (now (cols .entry)) kinds wraps nums ats lens) (now (floats .entry))
         → r ≡ planOfValues kind (numbers (cellsIn range (cellsOf (columns (now (rows .entry)) (now (cols .entry)) kinds wraps nums ats
         lens))))) ⌝ }
 {
-    if all_numbers(range, band, cols, floats) {
+    if are_values(inside, numeric, band, floats) {
         let from = band.from;
         let to = band.to;
         if let Planned::Of(plan) = plan_of_numbers(kind, &floats[from..to]) {
@@ -70,18 +73,16 @@ fn plan_by_values(
 }
 
 // Whether each coordinate of an upright range has a cell with a key: as many cells in range as it has coordinates, and none without a key.
-fn is_covered(range: Range, band: Band, cols: &[u16], keyless: u16) -> bool
-    requires { ⌜ (band .from ≤ band .to) × (band .to ≤ 1024) × (band .to ≤ length (now cols)) ⌝ }
-    ensures { λ r. ⌜ ((rows kinds wraps nums ats lens codes pool : List ℕ) (regions : List CellCoordinate) (name : Span)
-        → upright range ≡ true → Banded range (columns rows (now (cols .entry)) kinds wraps nums ats lens) (band .from) (band .to)
-        → Coded pool (columns rows (now (cols .entry)) kinds wraps nums ats lens) codes
-        → keyless ≡ codedFrom range rows (now (cols .entry)) codes 0 0 (length rows)
-        → r ≡ covered (sheetFrom (cellsOf (columns rows (now (cols .entry)) kinds wraps nums ats lens)) regions pool name) range) ⌝ }
+fn is_covered(range: Range, inside: usize, keyless: u16) -> bool
+    ensures { λ r. ⌜ ((c : CellColumns) (codes pool : List ℕ) (regions : List CellCoordinate) (name : Span) → upright range ≡ true
+        → firstFall (c .rows) (c .cols) ≡ none → length (c .rows) ≤ 1024 → inside ≡ length (cellsIn range (cellsOf c))
+        → Coded pool c codes → keyless ≡ codedFrom range (c .rows) (c .cols) codes 0 0 (length (c .rows))
+        → r ≡ covered (sheetFrom (cellsOf c) regions pool name) range) ⌝ }
 {
     if keyless != 0 {
         return false;
     }
-    cells_in(range, band, cols) as u64 == ranges::area(range)
+    inside as u64 == ranges::area(range)
 }
 
 // Port of the arm CfRule::DuplicateValues (conditional.rs) up to its regions, without its charge. The counts of the regions' keys are left
@@ -91,6 +92,7 @@ fn plan_of_duplicates(
     fill: Rgb,
     range: Range,
     band: Band,
+    inside: usize,
     regions: Band,
     rows: &[u32],
     cols: &[u16],
@@ -107,12 +109,14 @@ fn plan_of_duplicates(
     requires { ⌜ ((i : ℕ) → getD (now codes) i 0 < 1025) ⌝ }
     ensures plan { λ r. ⌜ ((kinds wraps nums ats lens pool : List ℕ) (sheetRegions : List CellCoordinate) (name : Span)
         → upright range ≡ true → Banded range (columns (now (rows .entry)) (now (cols .entry)) kinds wraps nums ats lens) (band .from) (band .to)
+        → inside ≡ length (cellsIn range (cellsOf (columns (now (rows .entry)) (now (cols .entry)) kinds wraps nums ats lens)))
         → Coded pool (columns (now (rows .entry)) (now (cols .entry)) kinds wraps nums ats lens) (now (codes .entry))
         → r ≡ planOf (sheetFrom (cellsOf (columns (now (rows .entry)) (now (cols .entry)) kinds wraps nums ats lens)) sheetRegions pool name) range
         (CfRule.DuplicateValues unique fill)) ⌝ }
     ensures founds { λ r. ⌜ ((kinds wraps nums ats lens pool : List ℕ) (test : Test) → upright range ≡ true
         → Banded range (columns (now (rows .entry)) (now (cols .entry)) kinds wraps nums ats lens) (band .from) (band .to)
         → BandOf range (now («region_rows» .entry)) (regions .from) (regions .to)
+        → inside ≡ length (cellsIn range (cellsOf (columns (now (rows .entry)) (now (cols .entry)) kinds wraps nums ats lens)))
         → Coded pool (columns (now (rows .entry)) (now (cols .entry)) kinds wraps nums ats lens) (now (codes .entry))
         → Followed (columns (now (rows .entry)) (now (cols .entry)) kinds wraps nums ats lens) (now («region_rows» .entry)) (now («region_cols» .entry)) (now (places .entry))
         → r ≡ Plan.Tested test
@@ -133,7 +137,7 @@ fn plan_of_duplicates(
         region_cols,
         founds,
     );
-    if !is_covered(range, band, cols, keyless) {
+    if !is_covered(range, inside, keyless) {
         return Plan::Deferred;
     }
     Plan::Tested(Test::DuplicateValues { unique, fill })
@@ -144,6 +148,7 @@ fn plan_without_values(
     kind: CfRule,
     range: Range,
     band: Band,
+    inside: usize,
     regions: Band,
     rows: &[u32],
     cols: &[u16],
@@ -160,11 +165,13 @@ fn plan_without_values(
     requires { ⌜ ((i : ℕ) → getD (now codes) i 0 < 1025) × (takesValues kind ≡ false) ⌝ }
     ensures plan { λ r. ⌜ ((kinds wraps nums ats lens pool : List ℕ) (sheetRegions : List CellCoordinate) (name : Span)
         → upright range ≡ true → Banded range (columns (now (rows .entry)) (now (cols .entry)) kinds wraps nums ats lens) (band .from) (band .to)
+        → CellsCounted kind range (columns (now (rows .entry)) (now (cols .entry)) kinds wraps nums ats lens) inside
         → (isDuplicates kind ≡ true → Coded pool (columns (now (rows .entry)) (now (cols .entry)) kinds wraps nums ats lens) (now (codes .entry)))
         → r ≡ planOf (sheetFrom (cellsOf (columns (now (rows .entry)) (now (cols .entry)) kinds wraps nums ats lens)) sheetRegions pool name) range kind) ⌝ }
     ensures founds { λ r. ⌜ ((kinds wraps nums ats lens pool : List ℕ) (test : Test) → upright range ≡ true
         → Banded range (columns (now (rows .entry)) (now (cols .entry)) kinds wraps nums ats lens) (band .from) (band .to)
         → BandOf range (now («region_rows» .entry)) (regions .from) (regions .to) → isDuplicates kind ≡ true
+        → CellsCounted kind range (columns (now (rows .entry)) (now (cols .entry)) kinds wraps nums ats lens) inside
         → Coded pool (columns (now (rows .entry)) (now (cols .entry)) kinds wraps nums ats lens) (now (codes .entry))
         → Followed (columns (now (rows .entry)) (now (cols .entry)) kinds wraps nums ats lens) (now («region_rows» .entry)) (now («region_cols» .entry)) (now (places .entry))
         → r ≡ Plan.Tested test
@@ -176,6 +183,7 @@ fn plan_without_values(
             fill,
             range,
             band,
+            inside,
             regions,
             rows,
             cols,
@@ -193,6 +201,8 @@ fn plan_without_values(
 fn plan_rule(
     rule: Rule,
     band: Band,
+    inside: usize,
+    numeric: bool,
     regions: Band,
     rows: &[u32],
     cols: &[u16],
@@ -209,15 +219,17 @@ fn plan_rule(
     requires { ⌜ (firstFall (now «region_rows») (now «region_cols») ≡ none) × (length (now «region_rows») ≤ length (now «region_cols»))
         × (regions .to ≤ length (now «region_rows»)) × (regions .from ≤ regions .to) × (regions .to ≤ length (now founds)) ⌝ }
     requires { ⌜ ((i : ℕ) → getD (now codes) i 0 < 1025) × (band .to ≤ length (now floats))
-        × (band .to - band .from ≤ length (now scratch)) ⌝ }
+        × (band .to - band .from ≤ length (now scratch)) × (numeric ≡ true → AllNumbers (now floats)) ⌝ }
     ensures plan { λ r. ⌜ ((kinds wraps nums ats lens pool : List ℕ) (sheetRegions : List CellCoordinate) (name : Span)
         → Banded (rule .range) (columns (now (rows .entry)) (now (cols .entry)) kinds wraps nums ats lens) (band .from) (band .to)
+        → CellsCounted (rule .kind) (rule .range) (columns (now (rows .entry)) (now (cols .entry)) kinds wraps nums ats lens) inside
         → Numbered (columns (now (rows .entry)) (now (cols .entry)) kinds wraps nums ats lens) (now (floats .entry))
         → (isDuplicates (rule .kind) ≡ true → Coded pool (columns (now (rows .entry)) (now (cols .entry)) kinds wraps nums ats lens) (now (codes .entry)))
         → r ≡ plan (sheetFrom (cellsOf (columns (now (rows .entry)) (now (cols .entry)) kinds wraps nums ats lens)) sheetRegions pool name) rule) ⌝ }
     ensures founds { λ r. ⌜ ((kinds wraps nums ats lens pool : List ℕ) (test : Test)
         → Banded (rule .range) (columns (now (rows .entry)) (now (cols .entry)) kinds wraps nums ats lens) (band .from) (band .to)
         → BandOf (rule .range) (now («region_rows» .entry)) (regions .from) (regions .to) → isDuplicates (rule .kind) ≡ true
+        → CellsCounted (rule .kind) (rule .range) (columns (now (rows .entry)) (now (cols .entry)) kinds wraps nums ats lens) inside
         → Coded pool (columns (now (rows .entry)) (now (cols .entry)) kinds wraps nums ats lens) (now (codes .entry))
         → Followed (columns (now (rows .entry)) (now (cols .entry)) kinds wraps nums ats lens) (now («region_rows» .entry)) (now («region_cols» .entry)) (now (places .entry))
         → r ≡ Plan.Tested test
@@ -229,12 +241,23 @@ fn plan_rule(
         return Plan::Deferred;
     }
     if takes_values(kind) {
-        return plan_by_values(kind, range, band, rows, cols, floats, scratch);
+        return plan_by_values(
+            kind,
+            range,
+            band,
+            inside,
+            numeric,
+            rows,
+            cols,
+            floats,
+            scratch,
+        );
     }
     plan_without_values(
         kind,
         range,
         band,
+        inside,
         regions,
         rows,
         cols,
@@ -251,6 +274,8 @@ pub(crate) fn plan_within(
     charged: Charged,
     rule: Rule,
     band: Band,
+    inside: usize,
+    numeric: bool,
     regions: Band,
     rows: &[u32],
     cols: &[u16],
@@ -267,16 +292,18 @@ pub(crate) fn plan_within(
     requires { ⌜ (firstFall (now «region_rows») (now «region_cols») ≡ none) × (length (now «region_rows») ≤ length (now «region_cols»))
         × (regions .to ≤ length (now «region_rows»)) × (regions .from ≤ regions .to) × (regions .to ≤ length (now founds)) ⌝ }
     requires { ⌜ ((i : ℕ) → getD (now codes) i 0 < 1025) × (band .to ≤ length (now floats))
-        × (band .to - band .from ≤ length (now scratch)) ⌝ }
+        × (band .to - band .from ≤ length (now scratch)) × (numeric ≡ true → AllNumbers (now floats)) ⌝ }
     ensures plan { λ r. ⌜ ((kinds wraps nums ats lens pool : List ℕ) (sheetRegions : List CellCoordinate) (name : Span)
         (counter : Counter) → charged ≡ Charged.Within counter
         → Banded (rule .range) (columns (now (rows .entry)) (now (cols .entry)) kinds wraps nums ats lens) (band .from) (band .to)
+        → CellsCounted (rule .kind) (rule .range) (columns (now (rows .entry)) (now (cols .entry)) kinds wraps nums ats lens) inside
         → Numbered (columns (now (rows .entry)) (now (cols .entry)) kinds wraps nums ats lens) (now (floats .entry))
         → (isDuplicates (rule .kind) ≡ true → Coded pool (columns (now (rows .entry)) (now (cols .entry)) kinds wraps nums ats lens) (now (codes .entry)))
         → r ≡ plan (sheetFrom (cellsOf (columns (now (rows .entry)) (now (cols .entry)) kinds wraps nums ats lens)) sheetRegions pool name) rule) ⌝ }
     ensures founds { λ r. ⌜ ((kinds wraps nums ats lens pool : List ℕ) (test : Test)
         → Banded (rule .range) (columns (now (rows .entry)) (now (cols .entry)) kinds wraps nums ats lens) (band .from) (band .to)
         → BandOf (rule .range) (now («region_rows» .entry)) (regions .from) (regions .to) → isDuplicates (rule .kind) ≡ true
+        → CellsCounted (rule .kind) (rule .range) (columns (now (rows .entry)) (now (cols .entry)) kinds wraps nums ats lens) inside
         → Coded pool (columns (now (rows .entry)) (now (cols .entry)) kinds wraps nums ats lens) (now (codes .entry))
         → Followed (columns (now (rows .entry)) (now (cols .entry)) kinds wraps nums ats lens) (now («region_rows» .entry)) (now («region_cols» .entry)) (now (places .entry))
         → r ≡ Plan.Tested test
@@ -287,6 +314,8 @@ pub(crate) fn plan_within(
         Charged::Within(_) => plan_rule(
             rule,
             band,
+            inside,
+            numeric,
             regions,
             rows,
             cols,

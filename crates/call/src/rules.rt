@@ -1,8 +1,10 @@
 // The rules of a job in their order: each is decided, then its marks, stops and bars are written out. The cells and the regions rise.
 use crate::Band;
 use crate::Decided;
+use crate::ahead::cells_asked;
 use crate::ahead::charge_after;
 use crate::bands::band_of;
+use crate::gathered::all_numeric;
 use crate::marks::draw_bars;
 use crate::marks::put_marks;
 use crate::marks::stop_regions;
@@ -43,7 +45,7 @@ ghost use Rattle.turns.specs.Emit.{markColumns, barColumns, Paints};
 ghost use Rattle.turns.specs.Knowing.{countsKeys};
 ghost use Rattle.turns.specs.Bands.{BandOf};
 ghost use Rattle.turns.specs.Turns.{stateOf, ranNone, indexed, turn, left, leftBy, sheetIn, sayIn, runIn};
-ghost use Rattle.call.specs.Tables.{Numbered, Valued, Coded, Founded, Tabled};
+ghost use Rattle.call.specs.Tables.{Numbered, AllNumbers, Valued, Coded, Founded, Tabled};
 ghost use Rattle.call.specs.Decides.{Decides};
 
 // ---- a rule up to its marks
@@ -221,12 +223,14 @@ fn test_regions(
 
 // Port of one turn of the loop over the rules in resolve_conditional_paints (conditional.rs), up to its marks: what it charges ahead of
 // the regions, what it comes to, what is known of the regions for it, and which of them it paints. `charged` is what the charges so far
-// came to, `alive` how many regions are not stopped. Once a charge is refused no more work is done.
+// came to, `alive` how many regions are not stopped, `numeric` whether all cells have numbers. Once a charge is refused no more work is
+// done.
 fn decide(
     rule: Rule,
     charged: Charged,
     limit: u64,
     alive: u64,
+    numeric: bool,
     flags: &[u8],
     places: &[u16],
     floats: &[f64],
@@ -247,7 +251,7 @@ fn decide(
     requires { ⌜ (firstFall (now rows) (now cols) ≡ none) × (length (now rows) ≤ 1024) × (length (now rows) ≤ length (now cols))
         × (length (now rows) ≤ length (now codes)) ⌝ }
     requires { ⌜ ((i : ℕ) → getD (now codes) i 0 < 1025) × (length (now rows) ≡ length (now floats))
-        × (length (now rows) ≤ length (now scratch)) ⌝ }
+        × (length (now rows) ≤ length (now scratch)) × (numeric ≡ true → AllNumbers (now floats)) ⌝ }
     requires { ⌜ (firstFall (now «region_rows») (now «region_cols») ≡ none)
         × (alive ≡ liveFrom (now flags) 0 (length (now «region_rows»))) ⌝ }
     requires { ⌜ fitsHits 0 (length (now «region_rows»)) (known (now values) (now firsts) (now seconds) (now founds)) (now «region_cols»)
@@ -263,13 +267,17 @@ fn decide(
     ensures hits { λ r. ⌜ ((k : ℕ) → k < r .count → getD (now (hits .exit)) k 0 < length (now («region_rows» .entry))) ⌝ }
 {
     let range = rule.range;
+    let kind = rule.kind;
     let band = band_of(range, rows);
-    let spent = charge_after(rule, charged, limit, band, cols);
+    let inside = cells_asked(kind, charged, range, band, cols);
+    let spent = charge_after(rule, charged, limit, inside);
     let regions = band_of(range, region_rows);
     let plan = plan_within(
         spent,
         rule,
         band,
+        inside,
+        numeric,
         regions,
         rows,
         cols,
@@ -317,6 +325,7 @@ fn turn(
     ran: Ran,
     limit: u64,
     alive: u64,
+    numeric: bool,
     places: &[u16],
     floats: &[f64],
     values: &[f64],
@@ -345,7 +354,7 @@ fn turn(
     requires { ⌜ (firstFall (now rows) (now cols) ≡ none) × (length (now rows) ≤ 1024) × (length (now rows) ≤ length (now cols))
         × (length (now rows) ≤ length (now codes)) ⌝ }
     requires { ⌜ ((i : ℕ) → getD (now codes) i 0 < 1025) × (length (now rows) ≡ length (now floats))
-        × (length (now rows) ≤ length (now scratch)) ⌝ }
+        × (length (now rows) ≤ length (now scratch)) × (numeric ≡ true → AllNumbers (now floats)) ⌝ }
     requires { ⌜ (firstFall (now «region_rows») (now «region_cols») ≡ none)
         × (alive ≡ liveFrom (now flags) 0 (length (now «region_rows»))) ⌝ }
     requires { ⌜ fitsHits 0 (length (now «region_rows»)) (known (now values) (now firsts) (now seconds) (now founds)) (now «region_cols»)
@@ -369,6 +378,7 @@ fn turn(
         before,
         limit,
         alive,
+        numeric,
         flags,
         places,
         floats,
@@ -496,6 +506,7 @@ fn run_rules(
     let mut founds = [0u16; 1024];
     let mut hits = [0u16; 1025];
     let mut flags = [0u8; 1024];
+    let numeric = all_numeric(floats);
     let n = region_rows.len();
     let mut alive = n as u64;
     let mut ran = none_yet(start);
@@ -510,6 +521,7 @@ fn run_rules(
             ran,
             limit,
             alive,
+            numeric,
             places,
             floats,
             values,

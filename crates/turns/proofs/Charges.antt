@@ -72,17 +72,6 @@ refused-not-within (Charged.CoordinateOverflow n) h c e = let no : _≡_ {A = �
 abbrev pub withoutKeys : List ℕ
 withoutKeys = 0 ∷ 1 ∷ 2 ∷ 3 ∷ 4 ∷ 5 ∷ 7 ∷ []
 
-pub no-duplicates : (k : CfRule) → OneOf withoutKeys (tagOf CfRule-type.the-type k) → isDuplicates k ≡ false
-unfolding isDuplicates
-no-duplicates (CfRule.CellIs op first second fill) h = refl
-no-duplicates (CfRule.ColorScale2 min max) h = refl
-no-duplicates (CfRule.ColorScale3 min mid max) h = refl
-no-duplicates (CfRule.DataBar color) h = refl
-no-duplicates (CfRule.TopBottom number bottom percent fill) h = refl
-no-duplicates (CfRule.AboveAverage below fill) h = refl
-no-duplicates (CfRule.DuplicateValues unique fill) h = absurd (miss withoutKeys 6 tt h)
-no-duplicates (CfRule.Expression op left right fill) h = refl
-
 module _ (s : Sheet) (range : Range) where
   aheadOf-values : (k : CfRule) → takesValues k ≡ true → aheadOf s range k ≡ cellCharges s range
   unfolding takesValues aheadOf

@@ -13,12 +13,12 @@ charge-ahead-requires c κs = search needs
 
 returns : tie.Need-returns
 unfolding andThen
-returns c rows kinds wraps nums ats lens regions pool name b =
-    rw (c .before .before .charged .given .1)
-    (c .charge-ahead .ensures rows kinds wraps nums ats lens regions pool name b)
+returns c cells regions pool name counted =
+    let within = c .before .before .charged .given .1 in
+    rw within (c .charge-ahead .ensures cells regions pool name (counted _ within))
 
 returns-2 : tie.Need-returns-2
-returns-2 c rows kinds wraps nums ats lens regions pool name b = refused-after _ (c .match .keys2) _
+returns-2 c cells regions pool name counted = refused-after _ (c .match .keys2) _
 
 pub charge-after-spec : {M : Type 1} → statement M
 charge-after-spec = tie.close (tie.spec enum-known-charged charge-ahead-requires returns returns-2)

@@ -3,13 +3,15 @@
 use mathlib.Core.Path.{sym, ap, _∙_}
 use lib.Seq.{length-take-le}
 use borrow.Author.Needs.{needs}
+use Rattle.cells.specs.Columns.{columns}
 use Rattle.plans.specs.Plans.{planOfValues}
 use Rattle.plans.proofs.AnyOrder.{planned-is}
+use Rattle.call.proofs.Gathering.{all-in-band}
 use Rattle.call.proofs.planned.plan_by_values.Statement.{statement}
 use Rattle.call.proofs.planned.plan_by_values.Tie as tie
 
-all-numbers-requires : tie.Need-all-numbers-requires
-all-numbers-requires c κs = search needs
+are-values-requires : tie.Need-are-values-requires
+are-values-requires c κs = search needs
 
 mul-plan-of-numbers : tie.Need-mul-plan-of-numbers
 mul-plan-of-numbers c = search needs
@@ -30,10 +32,14 @@ enum-known-plan : tie.Need-enum-known-plan
 enum-known-plan c = search needs
 
 returns : tie.Need-returns
-returns c kinds wraps nums ats lens band numbered =
+returns c kinds wraps nums ats lens band counted numbered =
     let told = c .before .before .before in
     let taken = told .before .before in
-    let all = taken .before .all-numbers .ensures _ kinds wraps nums ats lens band numbered (taken .if1 .taken) in
+    let start = taken .before .before .before .before .before .before in
+    let a = start .args in
+    let values = taken .before .are-values .ensures (taken .if1 .taken) in
+    let all = all-in-band (columns (a .rows .now) (a .cols .now) kinds wraps nums ats lens) band (a .floats .now) numbered
+    (start .pre .0 .4) (values .1) (sym counted ∙ values .0) in
     planned-is _ _ _ (sym (c .before .plan .given .1) ∙ told .plan-of-numbers .ensures) ∙ ap (planOfValues _) all
 
 enum-told : tie.Need-enum-told
@@ -56,7 +62,7 @@ same-length : tie.Need-same-length
 same-length c = search needs
 
 returns-2 : tie.Need-returns-2
-returns-2 c kinds wraps nums ats lens band numbered =
+returns-2 c kinds wraps nums ats lens band counted numbered =
     c .before .before .plan-of-values .ensures .0
     ∙ ap (planOfValues _)
     (c .before .before .before .before .before .before .gather .ensures .1 kinds wraps nums ats lens band numbered)
@@ -65,7 +71,7 @@ pub plan-by-values-spec : {M : Type 1} → statement M
 plan-by-values-spec =
     tie.close
     (tie.spec
-    all-numbers-requires
+    are-values-requires
     mul-plan-of-numbers
     sub-plan-of-numbers
     part-plan-of-numbers-start

@@ -21,9 +21,9 @@ within-grid-requires c κs = search needs
 returns : tie.Need-returns
 unfolding planOf
 returns c = (
-  λ kinds wraps nums ats lens pool regions name up banded coded.
+  λ kinds wraps nums ats lens pool regions name up banded inside coded.
       rw (sym (c .before .within-grid .ensures) ∙ not-true _ (c .if1 .taken)),
-  λ kinds wraps nums ats lens pool test up banded band coded followed tested. absurd (untested test tested),
+  λ kinds wraps nums ats lens pool test up banded band inside coded followed tested. absurd (untested test tested),
 )
 
 count-keys-requires : tie.Need-count-keys-requires
@@ -41,12 +41,12 @@ returns-2 c =
     let covered = c .before .is-covered .ensures in
     let keyless = c .before .before .before .before .count-keys .ensures .0 in
     let within = c .before .before .before .before .before .before in (
-      λ kinds wraps nums ats lens pool regions name up banded coded. rw (
+      λ kinds wraps nums ats lens pool regions name up banded inside coded. rw (
         sym (within .before .within-grid .ensures) ∙ not-false _ (within .if1 .left),
-        sym (covered _ kinds wraps nums ats lens _ pool regions name up banded coded (keyless (banded .band)))
+        sym (covered _ _ pool regions name up (banded .rise) (banded .few) inside coded (keyless (banded .band)))
             ∙ not-true _ (c .if2 .taken),
       ),
-      λ kinds wraps nums ats lens pool test up banded band coded followed tested. absurd (untested test tested),
+      λ kinds wraps nums ats lens pool test up banded band inside coded followed tested. absurd (untested test tested),
     )
 
 same-length-2 : tie.Need-same-length-2
@@ -59,18 +59,18 @@ returns-3 c =
     let counted = c .before .before .before .before .count-keys .ensures in
     let within = c .before .before .before .before .before .before in
     let a = within .before .before .before .before .before .before .before .before .before .args in (
-      λ kinds wraps nums ats lens pool regions name up banded coded. rw (
+      λ kinds wraps nums ats lens pool regions name up banded inside coded. rw (
         sym (within .before .within-grid .ensures) ∙ not-false _ (within .if1 .left),
-        sym (covered _ kinds wraps nums ats lens _ pool regions name up banded coded (counted .0 (banded .band)))
+        sym (covered _ _ pool regions name up (banded .rise) (banded .few) inside coded (counted .0 (banded .band)))
             ∙ not-false _ (c .if2 .left),
       ),
-      λ kinds wraps nums ats lens pool test up banded band coded followed tested i h e.
+      λ kinds wraps nums ats lens pool test up banded band inside coded followed tested i h e.
           let name : Span = record { at = 0; len = 0 } in
-          let full = sym (covered _ kinds wraps nums ats lens _ pool [] name up banded coded (counted .0 (banded .band)))
+          let full = sym (covered _ _ pool [] name up (banded .rise) (banded .few) inside coded (counted .0 (banded .band)))
           ∙ not-false _ (c .if2 .left) in
-          let inside = in-range-band band (a .region-cols .now) i h e in
-          let column = sym (within-band band (a .region-cols .now) i (inside .0) (inside .1)) ∙ e in
-          counted .1 (banded .band) i (inside .0) (inside .1) column
+          let among = in-range-band band (a .region-cols .now) i h e in
+          let column = sym (within-band band (a .region-cols .now) i (among .0) (among .1)) ∙ e in
+          counted .1 (banded .band) i (among .0) (among .1) column
           ∙ ap (λ entry. codedFrom (a .range) (a .rows .now) (a .cols .now) (a .codes .now) (codeNamed (a .codes .now) entry) 0
           (length (a .rows .now))) (followed i h)
           ∙ code-found (columns (a .rows .now) (a .cols .now) kinds wraps nums ats lens) (banded .rise) pool (a .codes .now) coded

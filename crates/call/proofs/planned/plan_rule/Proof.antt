@@ -5,7 +5,7 @@ use borrow.Author.Tests.{not-true, not-false}
 use borrow.Author.Needs.{needs}
 use Rattle.model.specs.Rule.{values}
 use Rattle.plans.proofs.Laws.{plan-inverted, plan-upright, plan-of-values}
-use Rattle.call.proofs.Parting.{values-no-duplicates, untested}
+use Rattle.call.proofs.Parting.{values-no-duplicates, values-ask, untested}
 use Rattle.call.proofs.planned.plan_rule.Statement.{statement}
 use Rattle.call.proofs.planned.plan_rule.Tie as tie
 
@@ -14,9 +14,9 @@ upright-requires c κs = search needs
 
 returns : tie.Need-returns
 returns c = (
-  λ kinds wraps nums ats lens pool regions name banded numbered coded.
+  λ kinds wraps nums ats lens pool regions name banded counted numbered coded.
       sym (plan-inverted _ _ (sym (c .before .upright .ensures) ∙ not-true _ (c .if1 .taken))),
-  λ kinds wraps nums ats lens pool test banded band counts coded followed tested. absurd (untested test tested),
+  λ kinds wraps nums ats lens pool test banded band counts counted coded followed tested. absurd (untested test tested),
 )
 
 takes-values-requires : tie.Need-takes-values-requires
@@ -34,10 +34,10 @@ returns-2 c =
     let taken = c .before .before .before .before in
     let takes = sym (taken .before .takes-values .ensures) ∙ taken .if2 .taken in
     let up = taken .before .before in (
-      λ kinds wraps nums ats lens pool regions name banded numbered coded.
-          c .before .before .plan-by-values .ensures kinds wraps nums ats lens (banded .band) numbered
+      λ kinds wraps nums ats lens pool regions name banded counted numbered coded.
+          c .before .before .plan-by-values .ensures kinds wraps nums ats lens (banded .band) (counted (values-ask _ takes)) numbered
           ∙ sym (plan-of-values _ _ takes (sym (up .before .upright .ensures) ∙ not-false _ (up .if1 .left))),
-      λ kinds wraps nums ats lens pool test banded band counts coded followed tested.
+      λ kinds wraps nums ats lens pool test banded band counts counted coded followed tested.
           absurd (true≢false (sym counts ∙ values-no-duplicates _ takes)),
     )
 
@@ -55,8 +55,8 @@ returns-3 c =
     let done = c .before .before .plan-without-values .ensures in
     let up = c .before .before .before .before .before .before in
     let is = sym (up .before .upright .ensures) ∙ not-false _ (up .if1 .left) in (
-      λ kinds wraps nums ats lens pool regions name banded numbered coded.
-          done .0 kinds wraps nums ats lens pool regions name is banded coded ∙ sym (plan-upright _ _ is),
+      λ kinds wraps nums ats lens pool regions name banded counted numbered coded.
+          done .0 kinds wraps nums ats lens pool regions name is banded counted coded ∙ sym (plan-upright _ _ is),
       λ kinds wraps nums ats lens pool test.
           done .1 kinds wraps nums ats lens pool test is,
     )

@@ -28,7 +28,7 @@ returns-2 : tie.Need-returns-2
 returns-2 c = (
   λ kinds wraps nums ats lens pool regions name counter h. absurd (refused-not-within _ (c .match .keys2) counter h),
   (
-    λ kinds wraps nums ats lens pool test banded band counts coded followed tested.
+    λ kinds wraps nums ats lens pool test banded band counts counted coded followed tested.
         absurd (untested test tested),
     λ test tested. absurd (untested test tested),
   ),

@@ -3,8 +3,9 @@ use mathlib.Core.Path.{sym, _∙_}
 use mathlib.Core.Bool.{true≢false}
 use borrow.Author.Needs.{needs}
 use Rattle.order.specs.Order.{isDuplicates}
-use Rattle.turns.proofs.Charges.{no-duplicates}
+use Rattle.order.proofs.Keyed.{not-duplicates}
 use Rattle.turns.proofs.Planning.{planOf-operands}
+use Rattle.call.proofs.Parting.{duplicates-ask}
 use Rattle.call.proofs.planned.plan_without_values.Statement.{statement}
 use Rattle.call.proofs.planned.plan_without_values.Tie as tie
 
@@ -25,20 +26,21 @@ unfolding isDuplicates
 returns c =
     let done = c .before .before .plan-of-duplicates .ensures in
     let kind = c .before .before .before .before .before .kind .given .1 in (
-      λ kinds wraps nums ats lens pool regions name up banded coded.
-          rw kind (done .0 kinds wraps nums ats lens pool regions name up banded (coded (rw kind))),
-      λ kinds wraps nums ats lens pool test up banded band counts coded.
-          done .1 kinds wraps nums ats lens pool test up banded band coded,
+      λ kinds wraps nums ats lens pool regions name up banded counted coded.
+          rw kind
+          (done .0 kinds wraps nums ats lens pool regions name up banded (counted (duplicates-ask _ (rw kind))) (coded (rw kind))),
+      λ kinds wraps nums ats lens pool test up banded band counts counted coded.
+          done .1 kinds wraps nums ats lens pool test up banded band (counted (duplicates-ask _ counts)) coded,
     )
 
 returns-2 : tie.Need-returns-2
 returns-2 c =
     let start = c .before .before .before .before .before .before .before .before .before in
     let other = c .before .match .keys2 in (
-      λ kinds wraps nums ats lens pool regions name up banded coded.
+      λ kinds wraps nums ats lens pool regions name up banded counted coded.
           c .plan-of-operands .ensures ∙ sym (planOf-operands _ _ _ other (start .pre .1 .1 .1)),
-      λ kinds wraps nums ats lens pool test up banded band counts coded followed tested.
-          absurd (true≢false (sym counts ∙ no-duplicates _ other)),
+      λ kinds wraps nums ats lens pool test up banded band counts counted coded followed tested.
+          absurd (true≢false (sym counts ∙ not-duplicates _ other)),
     )
 
 pub plan-without-values-spec : {M : Type 1} → statement M

@@ -1,5 +1,5 @@
--- `call::rules::decide` meets its contract: the bands of the rule's rows, the charges ahead of the regions, the plan where they are
--- accepted, and by the plan a rule without outcomes or the hits of its test. Assumes nothing.
+-- `call::rules::decide` meets its contract: the bands of the rule's rows, the cells in range, the charges ahead of the regions, the plan
+-- where they are accepted, and by the plan a rule without outcomes or the hits of its test. Assumes nothing.
 use Prim.Native.Nat.{ℕ}
 use native.Mathlib.Omega.{arith}
 use mathlib.Core.Path.{_≡_, sym, _∙_}
@@ -18,8 +18,9 @@ use Rattle.turns.specs.Step.{aheadOfRegions}
 use Rattle.turns.specs.Turns.{sheetIn}
 use Rattle.turns.specs.Bands.{BandOf}
 use Rattle.turns.proofs.Bands.{rows-rise}
-use Rattle.call.specs.Tables.{Banded, Tabled}
+use Rattle.call.specs.Tables.{Banded, CellsCounted, Tabled}
 use Rattle.call.proofs.Deciding.{counts-duplicates, fits-kept, by-deferred, by-skipped, by-tested}
+use Rattle.call.proofs.Parting.{accepted-before}
 use Rattle.call.proofs.rules.decide.Statement.{statement}
 use Rattle.call.proofs.rules.decide.Tie as tie
 
@@ -43,7 +44,7 @@ module _ (c : tie.After-band-of) where
 
 module _ (c : tie.After-plan-within) where
   abbrev bands : tie.After-band-of
-  bands = c .before .before .before .before .before
+  bands = c .before .before .before .before .before .before
 
   abbrev start : tie.Start
   start = begun bands
@@ -74,12 +75,24 @@ module _ (c : tie.After-plan-within) where
     banded : let r = bands .band-of .result in Banded (start .args .rule .range) cells (r .from) (r .to)
     banded = record { rise = start .pre .0 .0; few = start .pre .0 .1; band = band bands }
 
+    abbrev AsCounted : Type 0
+    AsCounted =
+        let r = start .args .rule in
+        CellsCounted (r .kind) (r .range) cells (c .before .before .before .before .before .cells-asked .result)
+
+    counted : (n : Counter) → start .args .charged ≡ Charged.Within n → AsCounted
+    counted n e = c .before .before .before .before .before .cells-asked .ensures _ kinds wraps nums ats lens n e (band bands)
+
     ahead : let a = start .args in spent ≡ aheadOfRegions sheet (a .rule) (a .limit) (a .charged)
-    ahead = c .before .before .before .before .charge-after .ensures _ kinds wraps nums ats lens _ _ _ (band bands)
+    ahead = c .before .before .before .before .charge-after .ensures cells _ _ _ counted
+
+    -- where the charges ahead of the regions are accepted, those before them were
+    counted-within : (n : Counter) → spent ≡ Charged.Within n → AsCounted
+    counted-within n e = let first = accepted-before _ _ n (sym ahead ∙ e) in counted (first .0) (first .1)
 
     planned : AsTabled → (n : Counter) → spent ≡ Charged.Within n → c .plan-within .result ≡ plan sheet (start .args .rule)
     planned tabled n e =
-        c .plan-within .ensures .0 kinds wraps nums ats lens _ _ _ n e banded (tabled .numbered) (tabled .coded)
+        c .plan-within .ensures .0 kinds wraps nums ats lens _ _ _ n e banded (counted-within n e) (tabled .numbered) (tabled .coded)
 
 -- ---- the steps
 
@@ -89,17 +102,20 @@ band-of-requires c κs =
     (c .before .before .before .before .before .before .before .before .before .before .before .before .before .before .before .before
     .pre .0 .0)
 
-charge-after-requires : tie.Need-charge-after-requires
-charge-after-requires c κs =
+cells-asked-requires : tie.Need-cells-asked-requires
+cells-asked-requires c κs =
     let pre = begun c .pre in
     (band c .ordered, omega (arith, band c .within, pre .0 .1), omega (arith, band c .within, pre .0 .2))
 
+charge-after-requires : tie.Need-charge-after-requires
+charge-after-requires c κs = search needs
+
 band-of-requires-2 : tie.Need-band-of-requires-2
-band-of-requires-2 c κs = rows-rise _ _ (begun (c .before) .pre .1 .1 .0 .0)
+band-of-requires-2 c κs = rows-rise _ _ (begun (c .before .before) .pre .1 .1 .0 .0)
 
 plan-within-requires : tie.Need-plan-within-requires
 plan-within-requires c κs =
-    let at = c .before .before .before .before in
+    let at = c .before .before .before .before .before in
     let pre = begun at .pre in
     let regions = c .before .before .band-of2 .ensures in
     let most = band at .within in (
@@ -112,7 +128,7 @@ plan-within-requires c κs =
           regions .ordered,
           omega (arith, regions .within, fit at .for-founds),
         ),
-        (pre .1 .0 .0, omega (arith, most, pre .1 .0 .1), omega (arith, most, pre .1 .0 .2)),
+        (pre .1 .0 .0, omega (arith, most, pre .1 .0 .1), omega (arith, most, pre .1 .0 .2), pre .1 .0 .3),
       ),
     )
 
@@ -140,8 +156,8 @@ test-regions-requires c κs =
       (
         (pre .1 .1 .0 .0, among at, pre .1 .1 .0 .1),
         fits-kept 0 (length (now (a .region-rows))) (now (a .values)) (now (a .firsts)) (now (a .seconds)) (now (a .founds))
-            (at .plan-within .last .1 .1 .1 .1 .1 .1 .1 .1 .1 .1 .1 .0) (now (a .region-cols)) (now (a .flags)) (length (now (a .hits)))
-            (at .plan-within .kept .1 .1 .1 .1 .1 .1 .1 .1 .1 .1 .1 .0) (pre .1 .1 .1),
+            (at .plan-within .last .1 .1 .1 .1 .1 .1 .1 .1 .1 .1 .1 .1 .1 .0) (now (a .region-cols)) (now (a .flags))
+            (length (now (a .hits))) (at .plan-within .kept .1 .1 .1 .1 .1 .1 .1 .1 .1 .1 .1 .1 .1 .0) (pre .1 .1 .1),
       ),
     )
 
@@ -206,14 +222,15 @@ returns-3 c =
     let is = told .plan .given .1 in
     let within = at .plan-within .ensures .1 .1 test is in (
       λ kinds wraps nums ats lens tabled.
-          let counted = counts-duplicates (sheet at kinds wraps nums ats lens) (a .rule) test
+          let duplicates = counts-duplicates (sheet at kinds wraps nums ats lens) (a .rule) test
           (sym is ∙ planned at kinds wraps nums ats lens tabled (within .0) (within .1)) in
           by-tested (sheet at kinds wraps nums ats lens) (a .rule) (a .limit) rows cols (now (a .flags)) (a .charged) (spent at)
           (ahead at kinds wraps nums ats lens) (at .plan-within .result) (planned at kinds wraps nums ats lens tabled) (now (a .values)) _
           (tested .test-regions .result) test is
           (tested .test-regions .ensures .0 kinds wraps nums ats lens (tabled .numbered) (tabled .valued)
           (λ keys. at .plan-within .ensures .1 .0 kinds wraps nums ats lens (now (a .pool)) test
-          (banded at kinds wraps nums ats lens) (among at) (counted keys) (tabled .coded (counted keys)) (tabled .followed) is)),
+          (banded at kinds wraps nums ats lens) (among at) (duplicates keys)
+          (counted-within at kinds wraps nums ats lens (within .0) (within .1)) (tabled .coded (duplicates keys)) (tabled .followed) is)),
       tested .test-regions .ensures .1,
     )
 
@@ -222,6 +239,7 @@ decide-spec =
     tie.close
     (tie.spec
     band-of-requires
+    cells-asked-requires
     charge-after-requires
     band-of-requires-2
     plan-within-requires

@@ -25,8 +25,8 @@ use Rattle.call.proofs.rules.run_rules.Tie as tie
 
 abbrev Inv-loop : tie.InvT-loop
 Inv-loop count start limit places floats values codes rows cols region-rows region-cols pool sheet regions₀ ruleids₀ markkinds₀ colours₀
-    ppms₀ barrules₀ barppms₀ scratch₀ rules order firsts₀ seconds₀ founds₀ hits₀ flags₀ n alive₀ ran₀ k₀ regions ruleids markkinds colours
-    ppms barrules barppms scratch firsts seconds founds hits flags alive ran k =
+    ppms₀ barrules₀ barppms₀ scratch₀ rules order firsts₀ seconds₀ founds₀ hits₀ flags₀ numeric n alive₀ ran₀ k₀ regions ruleids markkinds
+    colours ppms barrules barppms scratch firsts seconds founds hits flags alive ran k =
     let marks₀ = markColumns regions₀ ruleids₀ markkinds₀ colours₀ ppms₀ in
     let marks = markColumns regions ruleids markkinds colours ppms in
     let bars₀ = barColumns barrules₀ barppms₀ in
@@ -43,8 +43,8 @@ Inv-loop count start limit places floats values codes rows cols region-rows regi
 
 abbrev μ-loop : tie.MeasureT-loop
 μ-loop count start limit places floats values codes rows cols region-rows region-cols pool sheet regions₀ ruleids₀ markkinds₀ colours₀
-    ppms₀ barrules₀ barppms₀ scratch₀ rules order firsts₀ seconds₀ founds₀ hits₀ flags₀ n alive₀ ran₀ k₀ regions ruleids markkinds colours
-    ppms barrules barppms scratch firsts seconds founds hits flags alive ran k =
+    ppms₀ barrules₀ barppms₀ scratch₀ rules order firsts₀ seconds₀ founds₀ hits₀ flags₀ numeric n alive₀ ran₀ k₀ regions ruleids markkinds
+    colours ppms barrules barppms scratch firsts seconds founds hits flags alive ran k =
     count - k
 
 loop-holds : tie.Need-loop-holds Inv-loop μ-loop
@@ -73,25 +73,25 @@ loop-holds c = (
 array-read-index : tie.Need-array-read-index Inv-loop μ-loop
 array-read-index c =
     let few = c .before .before .before .before .before .before .before .before .before .before .before .before .before .before .before
-    .before .before .before .before .before .pre .0 .2 in
+    .before .before .before .before .before .before .pre .0 .2 in
     omega (arith, c .loop-test .taken, few)
 
 cast-at : tie.Need-cast-at Inv-loop μ-loop
 cast-at c =
     let pre = c .before .before .before .before .before .before .before .before .before .before .before .before .before .before .before
-    .before .before .before .before .before .pre .0 in
+    .before .before .before .before .before .before .pre .0 in
     omega (arith, pre .2, record-within _ _ _ _ (pre .0) (pre .1) (c .loop-test .taken))
 
 mul-rule : tie.Need-mul-rule Inv-loop μ-loop
 mul-rule c =
     let pre = c .before .before .before .before .before .before .before .before .before .before .before .before .before .before .before
-    .before .before .before .before .before .pre .0 in
+    .before .before .before .before .before .before .pre .0 in
     omega (arith, pre .2, record-within _ _ _ _ (pre .0) (pre .1) (c .loop-test .taken))
 
 element-copy-out-rule : tie.Need-element-copy-out-rule Inv-loop μ-loop
 element-copy-out-rule c =
     let pre = c .before .before .before .before .before .before .before .before .before .before .before .before .before .before .before
-    .before .before .before .before .before .pre .0 in
+    .before .before .before .before .before .before .pre .0 in
     omega (arith, pre .2, record-within _ _ _ _ (pre .0) (pre .1) (c .loop-test .taken))
 
 slice-aggregate-turn : tie.Need-slice-aggregate-turn Inv-loop μ-loop
@@ -116,7 +116,7 @@ turn-requires c κs =
     let at = test .before .loop in
     let inv = at .inv in
     let entry = test .before .before .before .before .before .before .before .before .before .before .before .before .before .before
-    .before .before .before .before .before .before in
+    .before .before .before .before .before .before .before in
     let a = entry .args in
     let pre = entry .pre in
     let cells = pre .1 .1 .0 in
@@ -129,7 +129,7 @@ turn-requires c κs =
       (
         pre .1 .0,
         (
-          (cells .0, cells .1, omega (arith, cells .2, inv .2 .scratch)),
+          (cells .0, cells .1, omega (arith, cells .2, inv .2 .scratch), test .before .before .before .all-numeric .ensures),
           (
             (regions .0, inv .8),
             fits-hits 0 (length (now (a .region-rows))) (known (now (a .values)) (at .firsts) (at .seconds) (at .founds))
@@ -163,13 +163,13 @@ module _ (c : tie.After-turn Inv-loop μ-loop) where
 
   abbrev entry : tie.Start Inv-loop μ-loop
   entry = test .before .before .before .before .before .before .before .before .before .before .before .before .before .before .before
-      .before .before .before .before .before
+      .before .before .before .before .before .before
 
   abbrev flags : List ℕ
-  flags = c .turn .last .1 .1 .1 .1 .1 .1 .1 .1 .1 .1 .1 .1 .1 .1 .1 .1 .1 .1 .1 .0
+  flags = c .turn .last .1 .1 .1 .1 .1 .1 .1 .1 .1 .1 .1 .1 .1 .1 .1 .1 .1 .1 .1 .1 .0
 
   flags-long : length flags ≡ 1024
-  flags-long = c .turn .kept .1 .1 .1 .1 .1 .1 .1 .1 .1 .1 .1 .1 .1 .1 .1 .1 .1 .1 .1 .0 ∙ test .before .loop .inv .2 .flagged
+  flags-long = c .turn .kept .1 .1 .1 .1 .1 .1 .1 .1 .1 .1 .1 .1 .1 .1 .1 .1 .1 .1 .1 .1 .0 ∙ test .before .loop .inv .2 .flagged
 
   within : length (now (entry .args .region-rows)) ≤ length flags
   within = omega (arith, flags-long, entry .pre .1 .1 .1 .1)
@@ -198,7 +198,7 @@ loop-again c =
     let pre = entry done .pre .0 in
     let first : at .k < length (orderedRules (entry done .args .t1)) = omega (arith, below, pre .1) in
     let few = done .turn .ensures .1 .1 in
-    let k = done .turn .kept .1 .1 .1 .1 .1 .1 .1 .1 .1 .1 .1 .1 .1 .1 .1 in
+    let k = done .turn .kept .1 .1 .1 .1 .1 .1 .1 .1 .1 .1 .1 .1 .1 .1 .1 .1 in
     let v = at .inv .2 in
     let regions = length (now (entry done .args .region-rows)) in (
       λ kinds wraps nums ats lens tabled.
@@ -255,7 +255,7 @@ returns : tie.Need-returns Inv-loop μ-loop
 returns c =
     let at = c .before .loop in
     let entry = c .before .before .before .before .before .before .before .before .before .before .before .before .before .before .before
-    .before .before .before .before .before in
+    .before .before .before .before .before .before in
     let end : at .k ≡ length (orderedRules (entry .args .t1)) = omega (arith, at .inv .3, c .loop-test .left, entry .pre .0 .1) in
     λ kinds wraps nums ats lens tabled.
     rw (c .before .before .none-yet .ensures) at
@@ -267,6 +267,7 @@ run-rules-spec =
     (tie.spec
     Inv-loop
     μ-loop
+    (λ _ _. tt)
     (λ _ _. tt)
     loop-holds
     array-read-index

@@ -47,7 +47,7 @@ said c = said-before (painted-before (put c))
 
 -- the table of hits
 abbrev hits : tie.After-decide → List ℕ
-hits c = c .decide .last .1 .1 .1 .1 .1 .1 .1 .1 .1 .1 .1 .1 .1 .1 .1 .1 .1 .1 .0
+hits c = c .decide .last .1 .1 .1 .1 .1 .1 .1 .1 .1 .1 .1 .1 .1 .1 .1 .1 .1 .1 .1 .0
 
 fit : (c : tie.After-decide) → let a = entered c .args in
     Fitting 0 (length (a .region-rows .now)) (known (a .values .now) (a .firsts .now) (a .seconds .now) (a .founds .now))
@@ -56,7 +56,7 @@ fit c = fitting _ _ _ _ _ _ (entered c .pre .1 .1 .1 .1)
 
 short : (c : tie.After-decide) → c .decide .result .count ≤ length (hits c)
 short c =
-    omega (arith, c .decide .ensures .1 .0 .0, fit c .within, c .decide .kept .1 .1 .1 .1 .1 .1 .1 .1 .1 .1 .1 .1 .1 .1 .1 .1 .1 .1 .0)
+    omega (arith, c .decide .ensures .1 .0 .0, fit c .within, c .decide .kept .1 .1 .1 .1 .1 .1 .1 .1 .1 .1 .1 .1 .1 .1 .1 .1 .1 .1 .1 .0)
 
 few : (c : tie.After-decide) → c .decide .result .count ≤ 1024
 few c = omega (arith, c .decide .ensures .1 .0 .0, fit c .few)
@@ -86,35 +86,35 @@ put-marks-requires c κs = below (said-before (c .before .before .before .before
 draw-bars-requires : tie.Need-draw-bars-requires
 draw-bars-requires c κs = below (said-before (painted-before (put-before c)))
 
-cast-t65 : tie.Need-cast-t65
-cast-t65 c = omega (arith, few (said-before (painted-before (put-before (c .before .before .before .before .before .before)))))
-
-add-t66 : tie.Need-add-t66
-add-t66 c =
-    let s = said-before (painted-before (put-before (c .before .before .before .before .before .before .before))) in
-    omega (arith, few s, entered s .pre .0 .0)
+cast-t66 : tie.Need-cast-t66
+cast-t66 c = omega (arith, few (said-before (painted-before (put-before (c .before .before .before .before .before .before)))))
 
 add-t67 : tie.Need-add-t67
 add-t67 c =
-    let s = said-before (painted-before (put-before (c .before .before .before .before .before .before .before .before .before))) in
-    omega (arith, s .decide .ensures .1 .0 .1, entered s .pre .0 .1)
+    let s = said-before (painted-before (put-before (c .before .before .before .before .before .before .before))) in
+    omega (arith, few s, entered s .pre .0 .0)
 
 add-t68 : tie.Need-add-t68
 add-t68 c =
+    let s = said-before (painted-before (put-before (c .before .before .before .before .before .before .before .before .before))) in
+    omega (arith, s .decide .ensures .1 .0 .1, entered s .pre .0 .1)
+
+add-t69 : tie.Need-add-t69
+add-t69 c =
     let s = said c in
     omega (arith, s .decide .ensures .1 .0 .2, entered s .pre .0 .2)
 
 same-length : tie.Need-same-length
-same-length c = said c .decide .kept .1 .1 .1 .1 .1 .1 .1 .1 .1 .1 .1 .1 .1 .1 .1 .0
+same-length c = said c .decide .kept .1 .1 .1 .1 .1 .1 .1 .1 .1 .1 .1 .1 .1 .1 .1 .1 .0
 
 same-length-2 : tie.Need-same-length-2
-same-length-2 c = said c .decide .kept .1 .1 .1 .1 .1 .1 .1 .1 .1 .1 .1 .1 .1 .1 .1 .1 .0
+same-length-2 c = said c .decide .kept .1 .1 .1 .1 .1 .1 .1 .1 .1 .1 .1 .1 .1 .1 .1 .1 .1 .0
 
 same-length-3 : tie.Need-same-length-3
-same-length-3 c = said c .decide .kept .1 .1 .1 .1 .1 .1 .1 .1 .1 .1 .1 .1 .1 .1 .1 .1 .1 .0
+same-length-3 c = said c .decide .kept .1 .1 .1 .1 .1 .1 .1 .1 .1 .1 .1 .1 .1 .1 .1 .1 .1 .1 .0
 
 same-length-4 : tie.Need-same-length-4
-same-length-4 c = said c .decide .kept .1 .1 .1 .1 .1 .1 .1 .1 .1 .1 .1 .1 .1 .1 .1 .1 .1 .1 .0
+same-length-4 c = said c .decide .kept .1 .1 .1 .1 .1 .1 .1 .1 .1 .1 .1 .1 .1 .1 .1 .1 .1 .1 .1 .0
 
 same-length-5 : tie.Need-same-length-5
 same-length-5 c = stopped c .stop-regions .kept .1 .1 .0
@@ -141,7 +141,7 @@ same-length-12 : tie.Need-same-length-12
 same-length-12 c = drawn c .draw-bars .kept .1 .1 .1 .1 .1 .0
 
 same-length-13 : tie.Need-same-length-13
-same-length-13 c = said c .decide .kept .1 .1 .1 .1 .1 .1 .1 .1 .1 .1 .1 .1 .1 .1 .1 .1 .1 .1 .1 .0
+same-length-13 c = said c .decide .kept .1 .1 .1 .1 .1 .1 .1 .1 .1 .1 .1 .1 .1 .1 .1 .1 .1 .1 .1 .1 .0
 
 returns : tie.Need-returns
 returns c =
@@ -170,10 +170,10 @@ turn-spec =
     put-marks-requires
     (λ _ _. tt)
     draw-bars-requires
-    cast-t65
-    add-t66
+    cast-t66
     add-t67
     add-t68
+    add-t69
     same-length
     same-length-2
     same-length-3
