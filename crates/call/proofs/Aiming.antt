@@ -112,7 +112,7 @@ same-axis at origin most h =
     let value : at + origin - origin ≡ at = omega arith in
     rw (le-leb origin (at + origin) (omega arith), value, le-leb at most h)
 
-neither : (a b : Bool) → not (a || b) ≡ true → (a ≡ false) × (b ≡ false)
+pub neither : (a b : Bool) → not (a || b) ≡ true → (a ≡ false) × (b ≡ false)
 neither true b e = absurd (false≢true e)
 neither false true e = absurd (false≢true e)
 neither false false e = (refl, refl)

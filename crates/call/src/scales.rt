@@ -6,9 +6,10 @@ use model::Rgb;
 use ratio::blended;
 use ratio::blended_among;
 use ratio::place_among;
+use ratio::place_rising;
 ghost use Prim.Native.Nat.{ℕ, _<_, _≤_, _+_, _-_, min};
 ghost use mathlib.Core.Path.{_≡_};
-ghost use mathlib.Core.Bool.{cond};
+ghost use mathlib.Core.Bool.{false, cond};
 ghost use mathlib.Core.List.{map};
 ghost use lib.Dec.{leb};
 ghost use lib.Ieee.{nan, le};
@@ -16,8 +17,8 @@ ghost use lib.ListN.{length, getD};
 ghost use lib.Seq.{sets};
 ghost use Rattle.model.specs.Ratio.{ratio, interpolateRgb, packed};
 
-// The places of the regions' numbers among three ends.
-fn put_places(
+// The places of the regions' numbers among three ends, one by one.
+fn put_each_place(
     values: &[f64],
     hits: &[u16],
     least: f64,
@@ -38,6 +39,55 @@ fn put_places(
         column[n + k] = place_among(x, least, midpoint, greatest);
         k += 1;
     }
+}
+
+// The same where no two ends are flat.
+fn put_rising(
+    values: &[f64],
+    hits: &[u16],
+    least: f64,
+    midpoint: f64,
+    greatest: f64,
+    n: usize,
+    column: &mut [u32],
+)
+    requires { ⌜ ((k : ℕ) → k < length (now hits) → getD (now hits) k 0 < length (now values)) ⌝ }
+    requires { ⌜ (le midpoint least ≡ false) × (le greatest midpoint ≡ false) ⌝ }
+    ensures { λ _. ⌜ now (column .exit) ≡ sets (now (column .entry)) n (map (λ h. cond (le (getD (now (values .entry)) h nan) midpoint)
+        (ratio (getD (now (values .entry)) h nan) least midpoint) (1_000_000 + ratio (getD (now (values .entry)) h nan) midpoint greatest))
+        (now (hits .entry))) ⌝ }
+{
+    let lower = midpoint - least;
+    let upper = greatest - midpoint;
+    let end = space_for(hits.len(), n, column.len());
+    let mut k = 0;
+    while k < end {
+        let x = values[hits[k] as usize];
+        column[n + k] = place_rising(x, least, midpoint, lower, upper);
+        k += 1;
+    }
+}
+
+// The places of the regions' numbers among three ends.
+fn put_places(
+    values: &[f64],
+    hits: &[u16],
+    least: f64,
+    midpoint: f64,
+    greatest: f64,
+    n: usize,
+    column: &mut [u32],
+)
+    requires { ⌜ ((k : ℕ) → k < length (now hits) → getD (now hits) k 0 < length (now values)) ⌝ }
+    ensures { λ _. ⌜ now (column .exit) ≡ sets (now (column .entry)) n (map (λ h. cond (le (getD (now (values .entry)) h nan) midpoint)
+        (ratio (getD (now (values .entry)) h nan) least midpoint) (1_000_000 + ratio (getD (now (values .entry)) h nan) midpoint greatest))
+        (now (hits .entry))) ⌝ }
+{
+    if (midpoint <= least) | (greatest <= midpoint) {
+        put_each_place(values, hits, least, midpoint, greatest, n, column);
+        return;
+    }
+    put_rising(values, hits, least, midpoint, greatest, n, column);
 }
 
 // The colours at ratios.

@@ -1,5 +1,5 @@
 -- A place among three colours: the two products of `channel_among` come to that of the half where the place lies, and so do the three
--- channels; and one ratio between the ends of a half serves both halves. Assumes nothing.
+-- channels; and one place in the span of a half serves both halves. Assumes nothing.
 use mathlib.Core.Path.{_≡_, refl, sym, ap, _∙_, subst}
 use mathlib.Core.Bool.{Bool, true, false, cond}
 use Prim.Native.Nat.{ℕ, _+_, _-_, _*_, _/_, _≤_, _<_, min}
@@ -7,8 +7,9 @@ use native.Mathlib.Omega.{arith}
 use lib.Dec.{leb}
 use lib.Ieee.{Float}
 use borrow.Author.Tests.{leb-true, leb-false, lt-leb}
-use Rattle.model.specs.Ratio.{ratio, channel, interpolateRgb}
+use Rattle.model.specs.Ratio.{channel, interpolateRgb}
 use Rattle.model.specs.declared.Rgb.{Rgb}
+use Rattle.ratio.specs.Spanned.{spanned}
 use Rattle.ratio.proofs.Between.{lifted, within}
 
 abbrev pub summed : ℕ → ℕ → ℕ → ℕ → ℕ → ℕ
@@ -108,8 +109,8 @@ held-place first middle last place = by (leb place 1_000_000) refl
 
 -- ---- the place of a value
 
-pub one-ratio : (t : Bool) (x least midpoint greatest : Float)
-    → ratio x (cond t least midpoint) (cond t midpoint greatest) + cond t 0 1_000_000
-    ≡ cond t (ratio x least midpoint) (1_000_000 + ratio x midpoint greatest)
-one-ratio true x least midpoint greatest = omega arith
-one-ratio false x least midpoint greatest = omega arith
+pub one-place : (t : Bool) (x least midpoint lower upper : Float)
+    → spanned x (cond t least midpoint) (cond t lower upper) + cond t 0 1_000_000
+    ≡ cond t (spanned x least lower) (1_000_000 + spanned x midpoint upper)
+one-place true x least midpoint lower upper = omega arith
+one-place false x least midpoint lower upper = omega arith

@@ -1,5 +1,5 @@
 -- A float held to 0..1, with 0 for -0 and not-a-number: a million times it is from 0 to 1,000,000, and rounds as a million times what the
--- definition holds it to. So a ratio is at most 1,000,000. Assumes nothing.
+-- definition holds it to. So a ratio is at most 1,000,000, and between ends that are not flat it is a place in a span. Assumes nothing.
 use mathlib.Core.Path.{_≡_, refl, sym, ap, _∙_, subst}
 use mathlib.Core.Bool.{Bool, true, false, cond, not}
 use Prim.Native.Nat.{ℕ, _+_, _*_, _/_, _^_, _≤_, _<_}
@@ -7,7 +7,7 @@ use native.Mathlib.Nat.{mul-pos, mul-right-comm, div-lt-iff-lt-mul}
 use native.Mathlib.Omega.{arith}
 use lib.Dec.{T, not-T, ltb, ltb→lt, leb→le, le→leb, lit<, lit≤}
 use lib.IntN.{ℤ, pos}
-use lib.Ieee.{Float, nan, inf, fin, binary64, low, up, down, unlike, odd, units, round, mul, lt, le}
+use lib.Ieee.{Float, nan, inf, fin, binary64, low, up, down, unlike, odd, units, round, sub, mul, lt, le}
 use lib.Ieee.Bits.{is-false}
 use lib.Ieee.Exact.{HasValue, odd-sign}
 use lib.Ieee.Fits.{down-pos, round-is}
@@ -16,6 +16,7 @@ use lib.Ieee.Scale.{round-same}
 use borrow.Author.Tests.{ltb-true, ltb-false}
 use Rattle.model.specs.Ratio.{zeroF, oneF, millionF, heldToUnit, rounded, quotient, ratio}
 use Rattle.ratio.specs.UpTo.{upTo}
+use Rattle.ratio.specs.Spanned.{spanned}
 use Rattle.ratio.proofs.Rounding.{at-most-of-le}
 
 -- ---- the product
@@ -165,18 +166,34 @@ rounded-up-to (fin false m e) h =
 held-at-most : (x r : Float) → Held x r → rounded (millionfold (heldToUnit x)) ≤ 1_000_000
 held-at-most x r h = subst (λ (n : ℕ). n ≤ 1_000_000) (h .same) (rounded-up-to (millionfold r) (product-up-to r (h .unit)))
 
-pub ratio-at-most : (v a b : Float) → ratio v a b ≤ 1_000_000
-unfolding ratio
-ratio-at-most v a b = flat (le b a)
+unit-at-most : (q : Float) → rounded (millionfold (heldToUnit q)) ≤ 1_000_000
+unit-at-most q = by (lt zeroF q) (lt q oneF) refl refl
   where
-    q : Float
-    q = quotient v a b
-
     by : (s t : Bool) → lt zeroF q ≡ s → lt q oneF ≡ t → rounded (millionfold (heldToUnit q)) ≤ 1_000_000
     by true true h k = held-at-most q q (held-inside q h k)
     by true false h k = held-at-most q oneF (held-above q h k)
     by false t h k = held-at-most q zeroF (held-below q h)
 
-    flat : (t : Bool) → cond t 1_000_000 (rounded (millionfold (heldToUnit q))) ≤ 1_000_000
+pub spanned-at-most : (v low span : Float) → spanned v low span ≤ 1_000_000
+unfolding spanned
+spanned-at-most v low span = unit-at-most _
+
+pub ratio-at-most : (v a b : Float) → ratio v a b ≤ 1_000_000
+unfolding ratio
+ratio-at-most v a b = flat (le b a)
+  where
+    flat : (t : Bool) → cond t 1_000_000 (rounded (millionfold (heldToUnit (quotient v a b)))) ≤ 1_000_000
     flat true = lit≤ tt
-    flat false = by (lt zeroF q) (lt q oneF) refl refl
+    flat false = unit-at-most (quotient v a b)
+
+-- ---- of ends that are not flat
+
+pub ratio-spanned : (v a b : Float) → le b a ≡ false → ratio v a b ≡ spanned v a (sub binary64 b a)
+unfolding ratio quotient spanned
+ratio-spanned v a b rises = rw rises
+
+-- of three
+pub among-spanned : (v least midpoint greatest : Float) → le midpoint least ≡ false → le greatest midpoint ≡ false
+    → cond (le v midpoint) (spanned v least (sub binary64 midpoint least)) (1_000_000 + spanned v midpoint (sub binary64 greatest midpoint))
+    ≡ cond (le v midpoint) (ratio v least midpoint) (1_000_000 + ratio v midpoint greatest)
+among-spanned v least midpoint greatest lower upper = rw (ratio-spanned v least midpoint lower, ratio-spanned v midpoint greatest upper)

@@ -7,6 +7,7 @@ ghost use lib.Dec.{T, leb};
 ghost use lib.Ieee.{binary64, mul, le};
 ghost use Rattle.model.specs.Ratio.{millionF, heldToUnit, rounded, ratio, barCells, heldToByte, channel, interpolateRgb, packed};
 ghost use Rattle.ratio.specs.UpTo.{upTo};
+ghost use Rattle.ratio.specs.Spanned.{spanned};
 use model::Rgb;
 
 // ---- ratio
@@ -40,14 +41,32 @@ pub fn normalized_ppm(value: f64, minimum: f64, maximum: f64) -> u32
 }
 
 // The place of a value among three ends, in parts per million of the half where it lies, and 1,000,000 more in the upper half: the midpoint
-// belongs to the lower half. The two ends of the half are chosen, so that one ratio serves both.
+// belongs to the lower half.
 pub fn place_among(x: f64, least: f64, midpoint: f64, greatest: f64) -> u32
     ensures { λ r. ⌜ r ≡ cond (le x midpoint) (ratio x least midpoint) (1_000_000 + ratio x midpoint greatest) ⌝ }
 {
+    if x <= midpoint {
+        return normalized_ppm(x, least, midpoint);
+    }
+    normalized_ppm(x, midpoint, greatest) + 1_000_000
+}
+
+// The place of a value in a span, in parts per million of it.
+fn place_in(value: f64, low: f64, span: f64) -> u32
+    ensures { λ r. ⌜ r ≡ spanned value low span ⌝ }
+{
+    rounded(held_to_unit((value - low) / span) * 1_000_000.0)
+}
+
+// The place of a value among three ends of which no two are flat, by the spans of the two halves. The low end and the span of the half are
+// chosen, so that one quotient serves both.
+pub fn place_rising(x: f64, least: f64, midpoint: f64, lower: f64, upper: f64) -> u32
+    ensures { λ r. ⌜ r ≡ cond (le x midpoint) (spanned x least lower) (1_000_000 + spanned x midpoint upper) ⌝ }
+{
     let low = if x <= midpoint { least } else { midpoint };
-    let high = if x <= midpoint { midpoint } else { greatest };
+    let span = if x <= midpoint { lower } else { upper };
     let more = if x <= midpoint { 0 } else { 1_000_000 };
-    normalized_ppm(x, low, high) + more
+    place_in(x, low, span) + more
 }
 
 // How many of forty cells a bar fills.
