@@ -5,7 +5,8 @@
 
 STORED is a list of jobs with the reports of the original, DAMAGED a copy of it in which some reports are damaged; README.md beside this
 file has the commands of tools/oracle that make both. The examples' list is that of tools/examples-list. Nothing here decides a job: what
-is to be printed of DAMAGED is where it differs from STORED, and of a list damaged in its form, where and how it was damaged.
+is to be printed of DAMAGED is where it differs from STORED, and of a list damaged in its form, where and how it was damaged. A text
+that its report refuses is refused alike when it is saved, and every other comes back.
 """
 
 import pathlib
@@ -21,6 +22,12 @@ LARGE = "a number too large"
 COUNT = "the list has another number of jobs"
 MORE = "the list goes on past its end"
 UNREADABLE = "the list cannot be read"
+
+# the refusals of a text ahead of any rule
+REFUSED = {2, 3, 4, 10, 11}
+
+# how often the free parts of a job's columns are filled (ROUNDS, crates/replays/src/freeparts.rt)
+ROUNDS = 3
 
 
 def part(data, at, word):
@@ -62,6 +69,21 @@ def mismatches(stored, damaged):
     return lines
 
 
+def number_of(report):
+    """The first value of a report, which stands below its seven names."""
+    return int(report.split()[7])
+
+
+def summary(name, stored, differ):
+    """The lines behind a list: of its reports, and of saving its jobs."""
+    refused = sum(number_of(report) in REFUSED for _, report in stored)
+    equal = len(stored) - refused
+    return [
+        f"{name}: {len(stored)} jobs, {differ} mismatches; saved again: {equal} equal, {refused} refused alike, 0 differ",
+        f"{ROUNDS * equal} columns with free parts filled at random: 0 differ",
+    ]
+
+
 def forms(job, report):
     """Lists of one job that are damaged in their form: name, bytes, place and words of the fault, and lines printed before it."""
     j, r = b"job %d\n" % len(job), b"report %d\n" % len(report)
@@ -100,9 +122,9 @@ def main():
         sys.exit("make.py: no report of the damaged list is damaged")
     examples = entries(EXAMPLES.read_bytes())
     lists = [("stored.list", stored_bytes), ("damaged.list", damaged_bytes)]
-    lines = [f"stored.list: {len(stored)} jobs, 0 mismatches"]
-    lines += told + [f"damaged.list: {len(stored)} jobs, {len(told)} mismatches"]
-    lines.append(f"examples.list: {len(examples)} jobs, 0 mismatches")
+    lines = ["read_job: 12 calls over memories one short, exact and longer: 0 differ"]
+    lines += summary("stored.list", stored, 0) + told + summary("damaged.list", stored, len(told))
+    lines += summary("examples.list", examples, 0)
     args = ["stored.list", "damaged.list", "examples.list"]
     for name, data, at, fault, before in forms(*stored[0]):
         lists.append((name, data))

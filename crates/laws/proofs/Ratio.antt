@@ -1,8 +1,9 @@
--- The ranges of ratio and colour: a ratio is at most 1,000,000 for any three floats, its bar fills at most 40 cells, and a channel is at
--- most 255. Assumes nothing.
+-- The ranges of ratio and colour: a ratio is at most 1,000,000 for any three floats, its bar fills at most 40 cells, none exactly at 0 and
+-- never fewer at a greater ratio, and a channel is at most 255. Assumes nothing.
 use mathlib.Core.Path.{_≡_, refl, subst}
+use mathlib.Core.Logic.{_↔_}
 use mathlib.Core.Bool.{Bool, true, false, cond, _&&_, _||_}
-use Prim.Native.Nat.{ℕ, _+_, _*_, _/_, _≤_, _<_}
+use Prim.Native.Nat.{ℕ, _+_, _*_, _/_, _≤_, _<_, min, max}
 use native.Mathlib.Nat.{le-refl, le-of-eq, le-of-lt, mul-pos, div-lt-iff-lt-mul}
 use native.Mathlib.Omega.{arith}
 use lib.Dec.{T, ltb, eqb, ltb→lt, eqb→eq, lit<, lit≤}
@@ -11,7 +12,7 @@ use lib.Ieee.{Float, nan, inf, fin, binary64, up, down, round, mul, lt, le}
 use lib.Ieee.Fits.{down-pos}
 use lib.Ieee.Order.{round-mono}
 use lib.Ieee.Scale.{round-same}
-use borrow.Author.Tests.{ltb-false}
+use borrow.Author.Tests.{ltb-false, eqb-true, eqb-false}
 use Rattle.model.specs.Ratio.{zeroF, oneF, millionF, heldToUnit, rounded, quotient, ratio, barCells, heldToByte, channel}
 
 -- ---- ratio
@@ -75,9 +76,31 @@ ratio-at-most v a b = flat (le b a)
 
 -- ---- bar
 
-pub bar-cells-at-most : (ppm : ℕ) → ppm ≤ 1_000_000 → barCells ppm ≤ 40
+-- both cases of the definition in one equation, as `arith` takes it
+cells-are : (ppm : ℕ) → barCells ppm ≡ min ppm (max 1 (40 * ppm / 1_000_000))
 unfolding barCells
-bar-cells-at-most ppm h = omega arith
+cells-are ppm = by (eqb ppm 0) refl
+  where
+    by : (t : Bool) → eqb ppm 0 ≡ t → cond t 0 (max 1 (40 * ppm / 1_000_000)) ≡ min ppm (max 1 (40 * ppm / 1_000_000))
+    by true h = omega (arith, eqb-true ppm 0 h)
+    by false h = omega (arith, eqb-false ppm 0 h)
+
+-- a finger tells a bar of 0 ppm from every other
+pub bar-cells-none : (ppm : ℕ) → (barCells ppm ≡ 0) ↔ (ppm ≡ 0)
+bar-cells-none ppm = (λ h. omega (arith, h, cells-are ppm), λ h. omega (arith, h, cells-are ppm))
+
+pub bar-cells-rise : (a b : ℕ) → a ≤ b → barCells a ≤ barCells b
+bar-cells-rise a b h = omega (arith, h, cells-are a, cells-are b)
+
+-- where forty times the ppm, cut down, is 0, and where it is not
+pub bar-cells-short : (ppm : ℕ) → 0 < ppm → ppm < 25_000 → barCells ppm ≡ 1
+bar-cells-short ppm h k = omega (arith, h, k, cells-are ppm)
+
+pub bar-cells-cut : (ppm : ℕ) → 25_000 ≤ ppm → barCells ppm ≡ 40 * ppm / 1_000_000
+bar-cells-cut ppm h = omega (arith, h, cells-are ppm)
+
+pub bar-cells-at-most : (ppm : ℕ) → ppm ≤ 1_000_000 → barCells ppm ≤ 40
+bar-cells-at-most ppm h = omega (arith, h, cells-are ppm)
 
 pub ratio-cells-at-most : (v a b : Float) → barCells (ratio v a b) ≤ 40
 ratio-cells-at-most v a b = bar-cells-at-most (ratio v a b) (ratio-at-most v a b)

@@ -63,8 +63,9 @@ channel-held : channel 0 255 (2 ^ 32 - 1) ∷ channel 255 0 (2 ^ 32 - 1) ∷ cha
 unfolding leaves samples
 channel-held = refl
 
--- forty cells, cut down
-bar-cells : map barCells (24_999 ∷ 25_000 ∷ 999_999 ∷ 1_000_000 ∷ []) ≡ 0 ∷ 1 ∷ 39 ∷ 40 ∷ []
+-- forty cells, cut down; none at 0 ppm alone
+bar-cells : map barCells (0 ∷ 1 ∷ 24_999 ∷ 25_000 ∷ 49_999 ∷ 50_000 ∷ 999_999 ∷ 1_000_000 ∷ (2 ^ 32 - 1) ∷ [])
+    ≡ 0 ∷ 1 ∷ 1 ∷ 1 ∷ 1 ∷ 2 ∷ 39 ∷ 40 ∷ 171_798 ∷ []
 unfolding leaves samples
 bar-cells = refl
 

@@ -1,7 +1,8 @@
 -- Ratio and colour: a value's place between two ends in parts per million, and a colour between two colours
 -- (document 01, 'Ratio and colour'). Each operation on floats is IEEE 754's, rounded once. Assumes nothing.
-use Prim.Native.Nat.{ℕ, _+_, _-_, _*_, _/_, _^_, min}
+use Prim.Native.Nat.{ℕ, _+_, _-_, _*_, _/_, _^_, min, max}
 use mathlib.Core.Bool.{false, cond}
+use lib.Dec.{eqb}
 use lib.IntN.{ℤ, pos, negsuc, _+ℤ_, _-ℤ_, _*ℤ_}
 use lib.Signed.{quotZ}
 use lib.Ieee.{Float, nan, inf, fin, binary64, up, down, sub, mul, div, lt, le}
@@ -41,9 +42,10 @@ unfoldable pub ratio : Float → Float → Float → ℕ
 ratio value minimum maximum =
     cond (le maximum minimum) 1_000_000 (rounded (mul binary64 (heldToUnit (quotient value minimum maximum)) millionF))
 
--- Added: how many of forty cells a bar fills
+-- Added: how many of forty cells a bar fills. None for 0 ppm, and otherwise at least one, so that a finger tells a short bar from none
+-- (document 02)
 unfoldable pub barCells : ℕ → ℕ
-barCells ppm = 40 * ppm / 1_000_000
+barCells ppm = cond (eqb ppm 0) 0 (max 1 (40 * ppm / 1_000_000))
 
 -- ---- colour
 

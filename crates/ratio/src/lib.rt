@@ -69,11 +69,13 @@ pub fn place_rising(x: f64, least: f64, midpoint: f64, lower: f64, upper: f64) -
     place_in(x, low, span) + more
 }
 
-// How many of forty cells a bar fills.
+// How many of forty cells a bar fills: none at 0 ppm, and otherwise at least one.
 pub fn bar_cells(ppm: u32) -> u32
     ensures { λ r. ⌜ r ≡ barCells ppm ⌝ }
 {
-    (40 * (ppm as u64) / 1_000_000) as u32
+    let cells = (40 * (ppm as u64) / 1_000_000) as u32;
+    let least = if ppm == 0 { 0 } else { 1 };
+    if cells < least { least } else { cells }
 }
 
 // ---- colour

@@ -1,5 +1,5 @@
 -- Reports computed on the definition: the worked job of document 01 at limits 100, 11 and 10 as the paper prints it, marks without a
--- colour and without a bar, no marks at all, and the refusals of a text. Assumes nothing.
+-- colour and without a bar, short bars, no marks at all, and the refusals of a text. Assumes nothing.
 use Prim.Native.Nat.{ℕ}
 use mathlib.Core.Path.{_≡_, refl}
 use mathlib.Core.List.{List, [], _∷_, _++_}
@@ -51,6 +51,15 @@ no-colour : reportOf (decided styled)
     ++ bytes "region barrule ppm\n0 1 0\n1 1 1000000\n"
 unfolding jobs samples lines
 no-colour = refl
+
+-- a bar of 24,999 ppm has a cell, one of 0 ppm has none
+short-bars : reportOf (decided (jobOf (down (0 ∷ 24_999 ∷ 50_000 ∷ 1_000_000 ∷ [])) (regions 4) (rule (rows 4) (CfRule.DataBar green) ∷ []) 0))
+    ≡ names
+    ++ bytes "0 0 8 0 4 0 1\n"
+    ++ bytes "region rule kind colour ppm cells\n0 0 3 00ff00 0 0\n1 0 3 00ff00 24999 1\n2 0 3 00ff00 50000 2\n3 0 3 00ff00 1000000 40\n"
+    ++ bytes "region barrule ppm\n0 0 0\n1 0 24999\n2 0 50000\n3 0 1000000\n"
+unfolding jobs samples lines
+short-bars = refl
 
 -- a line of names, even above none
 no-marks : reportOf (decided (jobOf [] (regions 2) [] 7))

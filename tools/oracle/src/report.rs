@@ -1,4 +1,4 @@
-//! The report (document 01, 'Job and report text').
+//! The report (document 01, 'Job and report text'; document 02 for the cells of a bar).
 
 use std::fmt::Write;
 
@@ -11,9 +11,12 @@ const NAMES: &str = "number place count actual marks deferred simplified\n";
 const MARK_NAMES: &str = "region rule kind colour ppm cells\n";
 const BAR_NAMES: &str = "region barrule ppm\n";
 
-/// Full cells of a bar: 40 for 1,000,000 ppm, cut down.
+/// Full cells of a bar: 40 for 1,000,000 ppm, cut down, but one at least, and none for 0 ppm alone.
 pub fn bar_cells(ppm: u32) -> u64 {
-    40 * u64::from(ppm) / 1_000_000
+    match ppm {
+        0 => 0,
+        _ => (u64::from(ppm) * 40 / 1_000_000).max(1),
+    }
 }
 
 fn mark_line(mark: &Mark) -> String {
@@ -55,4 +58,15 @@ pub fn report_by(text: &[u8], resolve: Resolve) -> Vec<u8> {
 /// The report on a job text, as the original decides it.
 pub fn report(text: &[u8]) -> Vec<u8> {
     report_by(text, ORIGINAL)
+}
+
+#[cfg(test)]
+mod tests {
+    use super::bar_cells;
+
+    #[test]
+    fn a_bar_has_no_cells_at_0_ppm_alone() {
+        let cells = [0, 1, 24_999, 25_000, 49_999, 50_000, 1_000_000, u32::MAX].map(bar_cells);
+        assert_eq!(cells, [0, 1, 1, 1, 1, 2, 40, 171_798]);
+    }
 }
