@@ -5,3 +5,4 @@ pub mod TextsHeld
 pub mod SavingHeld
 pub mod Walks
 pub mod FollowingHeld
+pub mod ReferencesHeld

@@ -129,7 +129,7 @@ fn more_digits(s: &[u8], at: usize, limit: u64, acc: u64) -> Field
 }
 
 // A number without a leading zero, at most limit, up to the first byte that is no digit.
-fn digits(s: &[u8], at: usize, limit: u64) -> Field
+pub fn digits(s: &[u8], at: usize, limit: u64) -> Field
     ensures { λ r. ⌜ r ≡ fieldOf (decimalAt limit at (drop at (now (s .entry)))) ⌝ }
 {
     if s.len() <= at {

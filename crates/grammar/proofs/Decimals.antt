@@ -138,6 +138,13 @@ module _ (limit : ℕ) where
   read-back pos zero c t o l h = refl
   read-back pos (suc m) c t o l h = digits-read 19 pos (suc m) (c ∷ t) (omega arith) (omega arith) o ∙ stops _ _ c t h
 
+  -- so is one that nothing follows
+  pub read-whole : (pos n : ℕ) → n ≤ limit → limit < 2 ^ 64 → decimalAt limit pos (decimalText n) ≡ got n (pos + length (decimalText n))
+  unfolding decimalAt decimalFrom digits
+  read-whole pos zero o l = refl
+  read-whole pos (suc m) o l =
+      ap (decimalAt limit pos) (sym (append-nil (decimalText (suc m)))) ∙ digits-read 19 pos (suc m) [] (omega arith) (omega arith) o
+
 -- ---- what is read is what would be written
 
 -- the bytes cs, the first of which is at pos, begin with ds, and rest follows

@@ -1,4 +1,5 @@
 pub mod Places
+pub mod Before
 pub mod Parts
 pub mod Times
 pub mod Choices

@@ -29,6 +29,7 @@ use Rattle.grammar.specs.Parts.{
   only,
 }
 use Rattle.grammar.proofs.Places.{past, within, here, at-head, bad-got, from, Steps, steps}
+use Rattle.grammar.proofs.Before.{exactly-before, before-exactly, following-before, readAs-before}
 
 -- ---- words
 
@@ -110,46 +111,8 @@ module _ {A : Type 0} {g : Gram A} (G : Exactly g) (w : List ℕ) where
 -- ---- one after the other
 
 module _ {A B : Type 0} {g : Gram A} {h : A → Gram B} (G : Exactly g) (H : (a : A) → Exactly (h a)) where
-  pub record Pair (s : List ℕ) (at : ℕ) (x : A × B) (q : ℕ) : Type 0 where
-    pub mid : ℕ
-    pub one : g .parse s at ≡ got (x .0) mid
-    pub two : h (x .0) .parse s mid ≡ got (x .1) q
-
-  pub pair : (s : List ℕ) (at : ℕ) (x : A × B) (q : ℕ) → following g h .parse s at ≡ got x q → Pair s at x q
-  pair s at x q e =
-      let m = steps (g .parse s at) (λ a k. then (h a .parse s k) (λ b n. got (a, b) n)) x q e in
-      let f = from (h (m .val) .parse s (m .mid)) (λ b. (m .val, b)) x q (m .two) in
-      let ea : m .val ≡ x .0 = ap (λ (y : A × B). y .0) (f .made) in
-      let eb : f .val ≡ x .1 = ap (λ (y : A × B). y .1) (f .made) in
-      record {
-        mid = m .mid;
-        one = m .one ∙ ap (λ (a : A). got a (m .mid)) ea;
-        two = subst (λ (a : A). h a .parse s (m .mid) ≡ got (x .1) q) ea (f .is ∙ ap (λ (b : B). got b q) eb);
-      }
-
   pub following-exact : Exactly (following g h)
-  following-exact = record {
-    reads = λ s at x t o e.
-        let u = g .text (x .0) in
-        let v = h (x .0) .text (x .1) in
-        let e1 : drop at s ≡ u ++ (v ++ t) = e ∙ append-assoc u v t in
-        let n : at + length u + length v ≡ at + length (u ++ v) = simp length-append (omega arith) in
-        rw (G .reads s at (x .0) (v ++ t) (o .0) e1, H (x .0) .reads s (at + length u) (x .1) t (o .1) (past s u (v ++ t) at e1))
-        (ap (λ (k : ℕ). got x k) n);
-    ok = λ s at x q e.
-        let m = pair s at x q e in
-        (G .ok s at (x .0) (m .mid) (m .one), H (x .0) .ok s (m .mid) (x .1) q (m .two));
-    next = λ s at x q e.
-        let m = pair s at x q e in
-        let i = G .next s at (x .0) (m .mid) (m .one) in
-        let j = H (x .0) .next s (m .mid) (x .1) q (m .two) in
-        simp length-append (omega arith);
-    split = λ s at x q e.
-        let m = pair s at x q e in
-        rw append-assoc
-        (G .split s at (x .0) (m .mid) (m .one)
-        ∙ ap (λ (l : List ℕ). g .text (x .0) ++ l) (H (x .0) .split s (m .mid) (x .1) q (m .two)));
-  }
+  following-exact = before-exactly (following-before (exactly-before G) (λ a. exactly-before (H a)) (λ a b t o m. tt))
 
 pub both-exact : {A B : Type 0} {g : Gram A} {h : Gram B} → Exactly g → Exactly h → Exactly (both g h)
 both-exact G H = following-exact G (λ _. H)
@@ -185,18 +148,8 @@ only-exact a w = record {
 
 module _ {A B : Type 0} {g : Gram A} (G : Exactly g) (to : A → B) (back : B → A)
     (back-to : (a : A) → g .Ok a → back (to a) ≡ a) (to-back : (b : B) → to (back b) ≡ b) where
-  as-back : (s : List ℕ) (at : ℕ) (b : B) (q : ℕ) → readAs to back g .parse s at ≡ got b q → g .parse s at ≡ got (back b) q
-  as-back s at b q e =
-      let m = from (g .parse s at) to b q e in
-      m .is ∙ ap (λ (a : A). got a q) (sym (back-to (m .val) (G .ok s at (m .val) q (m .is))) ∙ ap back (m .made))
-
   pub readAs-exact : Exactly (readAs to back g)
-  readAs-exact = record {
-    reads = λ s at b t o e. rw (G .reads s at (back b) t o e, to-back b);
-    ok = λ s at b q e. G .ok s at (back b) q (as-back s at b q e);
-    next = λ s at b q e. G .next s at (back b) q (as-back s at b q e);
-    split = λ s at b q e. G .split s at (back b) q (as-back s at b q e);
-  }
+  readAs-exact = before-exactly (readAs-before (exactly-before G) to back back-to to-back)
 
 module _ {A : Type 0} {g : Gram A} (G : Exactly g) (test : A → Bool) where
   pub record Tested (s : List ℕ) (at : ℕ) (a : A) (q : ℕ) : Type 0 where

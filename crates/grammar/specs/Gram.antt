@@ -29,6 +29,14 @@ pub record Exactly {A : Type 0} (g : Gram A) : Type 0 where
   pub next : (s : List ℕ) (at : ℕ) (a : A) (q : ℕ) → g .parse s at ≡ got a q → q ≡ at + length (g .text a)
   pub split : (s : List ℕ) (at : ℕ) (a : A) (q : ℕ) → g .parse s at ≡ got a q → drop at s ≡ g .text a ++ drop q s
 
+-- the same where what follows a text is such as it may be
+pub record Before {A : Type 0} (g : Gram A) (May : List ℕ → Type 0) : Type 0 where
+  pub reads : (s : List ℕ) (at : ℕ) (a : A) (t : List ℕ) → g .Ok a → May t → drop at s ≡ g .text a ++ t
+      → g .parse s at ≡ got a (at + length (g .text a))
+  pub ok : (s : List ℕ) (at : ℕ) (a : A) (q : ℕ) → g .parse s at ≡ got a q → g .Ok a
+  pub next : (s : List ℕ) (at : ℕ) (a : A) (q : ℕ) → g .parse s at ≡ got a q → q ≡ at + length (g .text a)
+  pub split : (s : List ℕ) (at : ℕ) (a : A) (q : ℕ) → g .parse s at ≡ got a q → drop at s ≡ g .text a ++ drop q s
+
 -- ---- lines
 
 -- the LFs among some bytes

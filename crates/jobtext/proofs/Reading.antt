@@ -11,7 +11,8 @@ use borrow.Author.Tests.{lt-ltb, le-ltb, eq-eqb, ltb-true, ltb-false, eqb-true}
 use Rattle.grammar.specs.Gram.{Got, lineOf}
 use Rattle.grammar.specs.Gram.Got.{got, bad}
 use Rattle.grammar.specs.Parts.{following}
-use Rattle.grammar.proofs.Parts.{following-exact, pair}
+use Rattle.grammar.proofs.Before.{pair}
+use Rattle.grammar.proofs.Parts.{following-exact}
 use Rattle.grammar.proofs.Whole.{accepted, accepts, one-text}
 use Rattle.jobtext.specs.Written.{JobText}
 use Rattle.jobtext.specs.Text.{Head, head, bodyT, body, toJob, ofJob, job}
@@ -121,7 +122,7 @@ text-read j r =
     let s = job .text j in
     let e : following head body .parse s 0 ≡ got (ofJob j) (length s) = accepts (following-exact head-exact body-exact) s (ofJob j)
     (r .ok) refl in
-    let p = pair head-exact body-exact s 0 (ofJob j) (length s) e in
+    let p = pair head body s 0 (ofJob j) (length s) e in
     rw (le-ltb maxText (length s) (r .fits), p .one, r .counts, p .two, eq-eqb (length s) (length s) refl)
 
 -- one job, one text

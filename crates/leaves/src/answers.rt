@@ -1,14 +1,22 @@
-// An answer, and how it is written.
+// An answer, and how it is written. A reference's name, and a text, are in the bytes that were lent for them.
+use model::A1Reference;
+use model::SheetName;
+use model::Span;
 use put::put_byte;
 use put::put_bytes;
 use put::put_hex;
 use put::put_number;
+use put::put_text;
 use readings::number::is_finite;
+use readings::text::text_at;
 
 pub(crate) enum Answer {
     Number(u64),
     Float(f64),
     Place { at: usize, width: usize, op: u64 },
+    Reference(A1Reference),
+    Text(Span),
+    NotZero,
     Nothing,
     Malformed,
 }
@@ -58,7 +66,41 @@ fn put_float(out: &mut [u8], at: usize, x: f64) -> usize {
     put_bytes(out, at, b"not finite\n")
 }
 
-pub(crate) fn put_answer(out: &mut [u8], at: usize, answer: Answer) -> usize {
+// 1 for an absolute row plus 2 for an absolute column.
+fn absolute_number(reference: A1Reference) -> u64 {
+    if reference.row_absolute {
+        return if reference.col_absolute { 3 } else { 1 };
+    }
+    if reference.col_absolute { 2 } else { 0 }
+}
+
+fn put_name(out: &mut [u8], at: usize, sheet: SheetName, lent: &[u8], end: u8) -> usize {
+    match sheet {
+        SheetName::This => {
+            let dash = put_byte(out, at, b'-');
+            put_byte(out, dash, end)
+        }
+        SheetName::Named(name) => put_text(out, at, text_at(lent, name), end),
+    }
+}
+
+// As the operand of a job text, and the byte that ends it.
+pub(crate) fn put_reference(
+    out: &mut [u8],
+    at: usize,
+    reference: A1Reference,
+    lent: &[u8],
+    end: u8,
+) -> usize {
+    let letter = put_byte(out, at, b'r');
+    let row = put_number(out, letter, reference.row as u64, b',');
+    let col = put_number(out, row, reference.col as u64, b',');
+    let absolute = put_number(out, col, absolute_number(reference), b',');
+    let sheet = reference.sheet;
+    put_name(out, absolute, sheet, lent, end)
+}
+
+pub(crate) fn put_answer(out: &mut [u8], at: usize, answer: Answer, lent: &[u8]) -> usize {
     match answer {
         Answer::Number(n) => put_number(out, at, n, b'\n'),
         Answer::Float(x) => put_float(out, at, x),
@@ -71,6 +113,9 @@ pub(crate) fn put_answer(out: &mut [u8], at: usize, answer: Answer) -> usize {
             let second = put_number(out, first, width as u64, b' ');
             put_number(out, second, op, b'\n')
         }
+        Answer::Reference(reference) => put_reference(out, at, reference, lent, b'\n'),
+        Answer::Text(text) => put_text(out, at, text_at(lent, text), b'\n'),
+        Answer::NotZero => put_bytes(out, at, b"not zero\n"),
         Answer::Nothing => put_bytes(out, at, b"none\n"),
         Answer::Malformed => at,
     }

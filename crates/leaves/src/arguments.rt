@@ -5,7 +5,11 @@ use fields::bits;
 use fields::byte;
 use fields::decimal;
 use fields::text;
+use fields::word;
+use model::A1Reference;
 use model::Cell;
+use model::SheetName;
+use model::Span;
 use readings::number::cell_value;
 use readings::number::float_of_bits;
 use readings::number::is_finite;
@@ -41,9 +45,32 @@ pub(crate) struct ListField {
     pub(crate) next: usize,
 }
 
+// Bytes that are in the pool.
+pub(crate) struct BytesField {
+    pub(crate) ok: bool,
+    pub(crate) span: Span,
+    pub(crate) next: usize,
+}
+
+struct NameField {
+    ok: bool,
+    sheet: SheetName,
+    next: usize,
+}
+
+pub(crate) struct ReferenceField {
+    pub(crate) ok: bool,
+    pub(crate) reference: A1Reference,
+    pub(crate) next: usize,
+}
+
 // Numbers that were read within a width.
 pub(crate) fn narrow8(x: u64) -> u8 {
     if x < 256 { x as u8 } else { 0 }
+}
+
+fn narrow16(x: u64) -> u16 {
+    if x < 65536 { x as u16 } else { 0 }
 }
 
 pub(crate) fn narrow32(x: u64) -> u32 {
@@ -165,5 +192,61 @@ pub(crate) fn cell(s: &[u8], at: usize, end: u8, pool: &mut [u8], used: usize) -
         },
         taken: value.len as usize,
         next: value.next,
+    }
+}
+
+// ---- references
+
+// `t` and pairs of digits. The bytes go into the pool from `used` on.
+pub(crate) fn bytes(s: &[u8], at: usize, end: u8, pool: &mut [u8], used: usize) -> BytesField {
+    let letter = byte(s, at, b't');
+    let read = text(s, letter.next, end, pool, used);
+    BytesField {
+        ok: letter.ok && read.fits,
+        span: Span {
+            at: narrow32(used as u64),
+            len: narrow32(read.length),
+        },
+        next: read.next,
+    }
+}
+
+// `-` for no name.
+fn sheet_name(s: &[u8], at: usize, pool: &mut [u8], used: usize) -> NameField {
+    let dash = word(s, at, b"-\n");
+    if dash.ok {
+        return NameField {
+            ok: true,
+            sheet: SheetName::This,
+            next: dash.next,
+        };
+    }
+    let name = bytes(s, at, b'\n', pool, used);
+    let span = name.span;
+    NameField {
+        ok: name.ok,
+        sheet: SheetName::Named(span),
+        next: name.next,
+    }
+}
+
+// A reference up to the line's end. Its name goes into the pool from `used` on.
+pub(crate) fn reference(s: &[u8], at: usize, pool: &mut [u8], used: usize) -> ReferenceField {
+    let letter = byte(s, at, b'r');
+    let row = decimal(s, letter.next, 4294967295, b',');
+    let col = decimal(s, row.next, 65535, b',');
+    let absolute = decimal(s, col.next, 3, b',');
+    let name = sheet_name(s, absolute.next, pool, used);
+    let sheet = name.sheet;
+    ReferenceField {
+        ok: letter.ok && row.ok && col.ok && absolute.ok && name.ok,
+        reference: A1Reference {
+            sheet,
+            row: narrow32(row.value),
+            col: narrow16(col.value),
+            row_absolute: absolute.value % 2 == 1,
+            col_absolute: absolute.value >= 2,
+        },
+        next: name.next,
     }
 }

@@ -10,6 +10,9 @@ use crate::numbers::answer_ratio;
 use crate::texts::answer_key;
 use crate::texts::answer_number;
 use crate::texts::answer_split;
+use crate::typed::answer_reads;
+use crate::typed::answer_typed;
+use crate::typed::answer_writes;
 use fields::word;
 
 fn answer_numbers(s: &[u8], at: usize) -> Answered {
@@ -52,11 +55,33 @@ fn answer_texts(s: &[u8], at: usize, pool: &mut [u8]) -> Answered {
     answer_numbers(s, at)
 }
 
-// The answer to the line at a place. The pool is lent for texts, the values for a list of numbers.
-pub(crate) fn answer_line(s: &[u8], at: usize, pool: &mut [u8], values: &mut [f64]) -> Answered {
+fn answer_references(s: &[u8], at: usize, pool: &mut [u8], lent: &mut [u8]) -> Answered {
+    let reads = word(s, at, b"reads ");
+    if reads.ok {
+        return answer_reads(s, reads.next, pool, lent);
+    }
+    let writes = word(s, at, b"writes ");
+    if writes.ok {
+        return answer_writes(s, writes.next, pool, lent);
+    }
+    let typed = word(s, at, b"typed ");
+    if typed.ok {
+        return answer_typed(s, typed.next, pool);
+    }
+    answer_texts(s, at, pool)
+}
+
+// The answer to the line at a place. The pool is lent for texts, `lent` for what a leaf writes, the values for a list of numbers.
+pub(crate) fn answer_line(
+    s: &[u8],
+    at: usize,
+    pool: &mut [u8],
+    lent: &mut [u8],
+    values: &mut [f64],
+) -> Answered {
     let midpoint = word(s, at, b"midpoint ");
     if midpoint.ok {
         return answer_midpoint(s, midpoint.next, values);
     }
-    answer_texts(s, at, pool)
+    answer_references(s, at, pool, lent)
 }

@@ -5,6 +5,7 @@ mod arguments;
 mod lines;
 mod numbers;
 mod texts;
+mod typed;
 
 use crate::answers::is_malformed;
 use crate::answers::put_answer;
@@ -34,11 +35,12 @@ fn answer_next(
     mut st: State,
     out: &mut [u8],
     pool: &mut [u8],
+    lent: &mut [u8],
     values: &mut [f64],
 ) -> State {
-    let answered = answer_line(s, st.at, pool, values);
+    let answered = answer_line(s, st.at, pool, lent, values);
     let answer = answered.answer;
-    st.put = put_answer(out, st.put, answer);
+    st.put = put_answer(out, st.put, answer, lent);
     st.at = answered.next;
     st.lines = std::num::wrapping_add_u64(st.lines, 1);
     st.going = !is_malformed(answer);
@@ -50,12 +52,19 @@ fn has_line(s: &[u8], st: State) -> bool {
 }
 
 // A line has at least one byte, so the turns are enough.
-fn answer_lines(s: &[u8], st: State, out: &mut [u8], pool: &mut [u8], values: &mut [f64]) -> State {
+fn answer_lines(
+    s: &[u8],
+    st: State,
+    out: &mut [u8],
+    pool: &mut [u8],
+    lent: &mut [u8],
+    values: &mut [f64],
+) -> State {
     let mut st = st;
     let mut left = s.len();
     while left > 0 && has_line(s, st) {
         left -= 1;
-        st = answer_next(s, st, out, pool, values);
+        st = answer_next(s, st, out, pool, lent, values);
     }
     st
 }
@@ -100,17 +109,18 @@ fn write_out(out: &[u8], put: usize) -> bool {
     false
 }
 
-// The answers to whole lines. No answer is longer than its line, so they fit.
+// The answers to whole lines. No answer is longer than twice its line, so they fit.
 fn answer_part(
     s: &[u8],
     mut st: State,
     out: &mut [u8],
     pool: &mut [u8],
+    lent: &mut [u8],
     values: &mut [f64],
 ) -> State {
     st.at = 0;
     st.put = 0;
-    let st = answer_lines(s, st, out, pool, values);
+    let st = answer_lines(s, st, out, pool, lent, values);
     if !write_out(out, st.put) {
         tell_unwritten();
         return stopped(st);
@@ -157,6 +167,7 @@ fn answer_filled(
     st: State,
     out: &mut [u8],
     pool: &mut [u8],
+    lent: &mut [u8],
     values: &mut [f64],
 ) -> State {
     if text.len() < filled {
@@ -164,7 +175,7 @@ fn answer_filled(
         return stopped(st);
     }
     let end = last_end(&text[0..filled]);
-    let mut st = answer_part(&text[0..end], st, out, pool, values);
+    let mut st = answer_part(&text[0..end], st, out, pool, lent, values);
     move_down(&mut text[0..filled], st.at);
     st.held = bytes_left(filled, st.at);
     st
@@ -176,13 +187,14 @@ fn answer_last(
     st: State,
     out: &mut [u8],
     pool: &mut [u8],
+    lent: &mut [u8],
     values: &mut [f64],
 ) -> State {
     if st.held == 0 {
         return stopped(st);
     }
     let filled = put_byte(text, st.held, b'\n');
-    stopped(answer_filled(text, filled, st, out, pool, values))
+    stopped(answer_filled(text, filled, st, out, pool, lent, values))
 }
 
 // What came behind the bytes that wait.
@@ -213,11 +225,12 @@ fn answer_more(
     st: State,
     out: &mut [u8],
     pool: &mut [u8],
+    lent: &mut [u8],
     values: &mut [f64],
 ) -> State {
     match read_more(text, st.held) {
-        More::Filled(filled) => answer_filled(text, filled, st, out, pool, values),
-        More::Ended => answer_last(text, st, out, pool, values),
+        More::Filled(filled) => answer_filled(text, filled, st, out, pool, lent, values),
+        More::Ended => answer_last(text, st, out, pool, lent, values),
         More::Failed => {
             tell_unread();
             stopped(st)
@@ -230,7 +243,13 @@ fn answer_more(
 }
 
 // A proved loop has to end, so it counts its turns down, from a number that no run uses up.
-fn answer_all(text: &mut [u8], out: &mut [u8], pool: &mut [u8], values: &mut [f64]) {
+fn answer_all(
+    text: &mut [u8],
+    out: &mut [u8],
+    pool: &mut [u8],
+    lent: &mut [u8],
+    values: &mut [f64],
+) {
     let mut st = State {
         held: 0,
         at: 0,
@@ -241,7 +260,7 @@ fn answer_all(text: &mut [u8], out: &mut [u8], pool: &mut [u8], values: &mut [f6
     let mut turns = u64::MAX;
     while turns > 0 && st.going {
         turns -= 1;
-        st = answer_more(text, st, out, pool, values);
+        st = answer_more(text, st, out, pool, lent, values);
     }
 }
 
@@ -252,10 +271,18 @@ fn no_values() -> [f64; 4096]
     [0.0; 4096]
 }
 
+// Twice as many bytes as the text has: a quote of a name is two digits of a line, and four of its answer.
+fn no_answers() -> [u8; 131072]
+    ensures { λ r. ⌜ 131072 ≡ length r ⌝ }
+{
+    [0; 131072]
+}
+
 fn main() {
     let mut text = io::large_buffer();
-    let mut out = io::large_buffer();
+    let mut out = no_answers();
     let mut pool = io::large_buffer();
+    let mut lent = io::large_buffer();
     let mut values = no_values();
-    answer_all(&mut text, &mut out, &mut pool, &mut values);
+    answer_all(&mut text, &mut out, &mut pool, &mut lent, &mut values);
 }

@@ -4,14 +4,11 @@ use crate::answers::Answered;
 use crate::answers::flag;
 use crate::answers::malformed;
 use crate::answers::nothing;
+use crate::arguments::bytes;
 use crate::arguments::cell;
-use crate::arguments::narrow32;
-use fields::byte;
-use fields::text;
 use model::ConditionalComparison;
 use model::ConditionalValueKey;
 use model::Reading;
-use model::Span;
 use model::Split;
 use readings::text::is_ascii;
 use readings::text::text_at;
@@ -44,15 +41,10 @@ fn split_place(bytes: &[u8]) -> Answer {
 }
 
 pub(crate) fn answer_split(s: &[u8], at: usize, pool: &mut [u8]) -> Answered {
-    let letter = byte(s, at, b't');
-    let read = text(s, letter.next, b'\n', pool, 0);
-    if letter.ok && read.fits {
-        let span = Span {
-            at: 0,
-            len: narrow32(read.length),
-        };
+    let read = bytes(s, at, b'\n', pool, 0);
+    if read.ok {
         return Answered {
-            answer: split_place(text_at(pool, span)),
+            answer: split_place(text_at(pool, read.span)),
             next: read.next,
         };
     }

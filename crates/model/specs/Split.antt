@@ -4,7 +4,7 @@ use Prim.Native.Nat.{ℕ, suc, _+_}
 use mathlib.Core.Bool.{Bool, false, cond, not, _&&_, _||_}
 use mathlib.Core.List.{List, [], _∷_, reverse}
 use lib.Dec.{leb, eqb}
-use lib.ListN.{drop}
+use lib.ListN.{take, drop}
 use Rattle.model.specs.declared.ConditionalComparison.{ConditionalComparison}
 use Rattle.model.specs.declared.Split.{Split}
 
@@ -69,3 +69,11 @@ behind bs Split.Nothing = []
 -- the right part: from behind the operator to the end, nothing without an operator
 unfoldable pub rightPart : List ℕ → List ℕ
 rightPart bs = behind (formula bs) (split bs)
+
+unfoldable pub ahead : List ℕ → Split → List ℕ
+ahead bs (Split.At op at width) = take at bs
+ahead bs Split.Nothing = []
+
+-- the left part: up to the operator, nothing without one
+unfoldable pub leftPart : List ℕ → List ℕ
+leftPart bs = ahead (formula bs) (split bs)

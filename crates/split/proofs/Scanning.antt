@@ -1,17 +1,17 @@
--- The scan byte by byte: the end, a quote, a byte inside quotes, an operator, any other byte; and the right part. Assumes nothing.
+-- The scan byte by byte: the end, a quote, a byte inside quotes, an operator, any other byte; and both parts. Assumes nothing.
 use Prim.Native.Nat.{ℕ, suc, _+_, _≤_, _<_}
 use mathlib.Core.Path.{_≡_, refl, sym, ap, _∙_}
 use mathlib.Core.List.{List, [], _∷_}
 use mathlib.Core.Bool.{Bool, true, false, cond, not}
 use native.Mathlib.Nat.{add-zero}
 use native.Mathlib.Numerals.{add-one}
-use lib.ListN.{length, drop, getD, drop-of-length-le}
+use lib.ListN.{length, take, drop, getD, drop-of-length-le}
 use lib.Seq.{drop-cons, drop-drop, getD-drop}
 use lib.Dec.{eqb, eqb·zero-suc}
 use borrow.Author.Tests.{eq-eqb, ne-eqb}
 use Rattle.model.specs.declared.ConditionalComparison.{ConditionalComparison}
 use Rattle.model.specs.declared.Split.{Split}
-use Rattle.model.specs.Split.{formula, begins, splitAt, operatorAt, orLater, scan, split, behind, rightPart}
+use Rattle.model.specs.Split.{formula, begins, splitAt, operatorAt, orLater, scan, split, behind, rightPart, ahead, leftPart}
 
 -- ---- an operator is told by its byte and the next, where 0 stands for no byte
 
@@ -64,7 +64,7 @@ module _ (bs : List ℕ) (i : ℕ) (quoted : Bool) (whole : Split) (left : leftA
     unfolding orLater
     scan-on e = rw e at scan-here
 
--- ---- the right part
+-- ---- the right part and the left part
 
 module _ (bs part : List ℕ) (here : Split) (parted : part ≡ formula bs) (scanned : here ≡ scan false 0 part) where
   pub rightPart-at
@@ -76,3 +76,12 @@ module _ (bs part : List ℕ) (here : Split) (parted : part ≡ formula bs) (sca
   pub rightPart-none : here ≡ Split.Nothing → [] ≡ rightPart bs
   unfolding split behind rightPart
   rightPart-none e = rw (← parted, ← scanned, e)
+
+  pub leftPart-at : (op : ConditionalComparison) (at width : ℕ) → here ≡ splitAt op at width
+      → (left : List ℕ) → left ≡ take at part → left ≡ leftPart bs
+  unfolding split ahead leftPart
+  leftPart-at op at width e left first = first ∙ rw (← parted, ← scanned, e)
+
+  pub leftPart-none : here ≡ Split.Nothing → [] ≡ leftPart bs
+  unfolding split ahead leftPart
+  leftPart-none e = rw (← parted, ← scanned, e)

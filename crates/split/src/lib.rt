@@ -4,7 +4,7 @@ ghost use mathlib.Core.Bool.{false};
 ghost use mathlib.Core.List.{[], _∷_, reverse};
 ghost use Prim.Native.Nat.{_≤_};
 ghost use lib.ListN.{length, getD, take, drop};
-ghost use Rattle.model.specs.Split.{blank, dropBlanks, trimmed, withoutEquals, formula, splitAt, operatorAt, scan, split, rightPart};
+ghost use Rattle.model.specs.Split.{blank, dropBlanks, trimmed, withoutEquals, formula, splitAt, operatorAt, scan, split, rightPart, leftPart};
 use model::ConditionalComparison;
 use model::Split;
 
@@ -171,6 +171,32 @@ pub fn right_part(bytes: &[u8]) -> &[u8]
     let part = formula(bytes);
     match scan(part) {
         Split::At { op: _, at, width } => from(from(part, at), width),
+        Split::Nothing => &part[..0],
+    }
+}
+
+// The bytes up to a position, all of them past the end.
+fn up_to(bytes: &[u8], end: usize) -> &[u8]
+    ensures { λ r. ⌜ now r ≡ take end (now (bytes .entry)) ⌝ }
+{
+    if end <= bytes.len() {
+        &bytes[..end]
+    } else {
+        bytes
+    }
+}
+
+// The part up to the operator, none without one.
+pub fn left_part(bytes: &[u8]) -> &[u8]
+    ensures { λ r. ⌜ now r ≡ leftPart (now (bytes .entry)) ⌝ }
+{
+    let part = formula(bytes);
+    match scan(part) {
+        Split::At {
+            op: _,
+            at,
+            width: _,
+        } => up_to(part, at),
         Split::Nothing => &part[..0],
     }
 }

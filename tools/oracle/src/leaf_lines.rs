@@ -1,11 +1,13 @@
 //! Arguments for the leaves: random ones, and all of them where that can be done.
 
+use crate::a1_lines::{reads_line, typed_line, writes_line};
 use crate::generate::numbers;
 use crate::generate::sheets::{value, Flavour};
 use crate::rng::Rng;
 use crate::write::{hex, value_text};
 
-pub const LEAVES: [&str; 9] = ["ratio", "channel", "cellis", "expr", "midpoint", "split", "axis", "number", "key"];
+pub const LEAVES: [&str; 12] =
+    ["ratio", "channel", "cellis", "expr", "midpoint", "split", "axis", "number", "key", "reads", "writes", "typed"];
 
 const SPLIT_BYTES: &[u8; 7] = b"A1'=<> ";
 const PPM: [u32; 8] = [0, 1, 499_999, 500_000, 500_001, 999_999, 1_000_000, u32::MAX];
@@ -80,6 +82,9 @@ pub fn line(rng: &mut Rng, leaf: &str) -> String {
             format!("axis {target} {reference} {origin} {maximum}")
         }
         "number" => format!("number {}", wrapped(rng)),
+        "reads" => reads_line(rng),
+        "writes" => writes_line(rng),
+        "typed" => typed_line(rng),
         _ => format!("key {} {}", wrapped(rng), wrapped(rng)),
     }
 }

@@ -1,9 +1,11 @@
-//! The leaves, one call a line: arguments in, the original's answer out. README.md has the lines.
+//! The leaves, one call a line: arguments in, the original's answer out; that of a1.rs for references as they are typed. README.md has the
+//! lines.
 
+use crate::a1;
 use crate::carry::cell;
-use crate::job::Value;
+use crate::job::{Operand, Reference, Value};
 use crate::layout::probed::probe;
-use crate::read_fields::{decimal_u32, decimal_u8, text, value};
+use crate::read_fields::{decimal_u16, decimal_u32, decimal_u8, operand, text, value};
 use crate::{Cell, DV_OPS};
 
 /// The f64 of a field `n` and 16 hex digits.
@@ -22,6 +24,18 @@ fn wrapped(wraps: &str, held: &str) -> Option<Cell> {
     Some(cell(&value(held.as_bytes())?, decimal_u8(wraps.as_bytes(), 255)?))
 }
 
+/// How many bytes are lent.
+fn space(field: &str) -> Option<usize> {
+    decimal_u16(field.as_bytes()).map(usize::from)
+}
+
+fn reference(field: &str) -> Option<Reference> {
+    match operand(field.as_bytes())? {
+        Operand::Reference(reference) => Some(reference),
+        _ => None,
+    }
+}
+
 fn flag(holds: bool) -> String {
     u8::from(holds).to_string()
 }
@@ -30,7 +44,7 @@ fn or_none(answer: Option<String>) -> String {
     answer.unwrap_or("none".to_string())
 }
 
-/// The original's answer to a line; nothing for a line that is none of the leaves' lines.
+/// The answer to a line; nothing for a line that is none of the leaves' lines.
 pub fn answer(line: &str) -> Option<String> {
     let fields: Vec<&str> = line.split(' ').collect();
     let number = |field: &str| decimal_u32(field.as_bytes());
@@ -54,6 +68,9 @@ pub fn answer(line: &str) -> Option<String> {
         }
         ["number", wraps, held] => or_none(probe::number(&wrapped(wraps, held)?).map(|v| format!("n{:016x}", v.to_bits()))),
         ["key", w1, v1, w2, v2] => or_none(probe::same_key(&wrapped(w1, v1)?, &wrapped(w2, v2)?).map(flag)),
+        ["reads", lent, bytes] => a1::reads(space(lent)?, &text(bytes.as_bytes())?),
+        ["writes", lent, typed] => a1::writes(space(lent)?, &reference(typed)?),
+        ["typed", bytes, ref said @ ..] if !said.is_empty() => flag(a1::forms(&text(bytes.as_bytes())?) == said.join(" ")),
         _ => return None,
     })
 }

@@ -20,6 +20,11 @@ pub use model::{
     StyleLossKind, DV_OPS,
 };
 
+pub mod a1;
+pub mod a1_damage;
+pub mod a1_lines;
+#[cfg(test)]
+mod a1_tests;
 pub mod answer;
 pub mod bench_jobs;
 pub mod carry;

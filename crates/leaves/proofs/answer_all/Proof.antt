@@ -8,11 +8,12 @@ use Rattle.leaves.proofs.answer_all.Statement.{statement}
 use Rattle.leaves.proofs.answer_all.Tie as tie
 
 abbrev Inv-loop : tie.InvT-loop
-Inv-loop text₀ out₀ pool₀ values₀ st₀ turns₀ text out pool values st turns =
-    (length text ≡ length text₀) × (length out ≡ length out₀) × (length pool ≡ length pool₀) × (length values ≡ length values₀)
+Inv-loop text₀ out₀ pool₀ lent₀ values₀ st₀ turns₀ text out pool lent values st turns =
+    (length text ≡ length text₀) × (length out ≡ length out₀) × (length pool ≡ length pool₀) × (length lent ≡ length lent₀)
+    × (length values ≡ length values₀)
 
 abbrev μ-loop : tie.MeasureT-loop
-μ-loop text₀ out₀ pool₀ values₀ st₀ turns₀ text out pool values st turns = turns
+μ-loop text₀ out₀ pool₀ lent₀ values₀ st₀ turns₀ text out pool lent values st turns = turns
 
 loop-holds : tie.Need-loop-holds Inv-loop μ-loop
 loop-holds c = search needs
@@ -41,11 +42,11 @@ same-length-3 c = search needs
 same-length-4 : tie.Need-same-length-4 Inv-loop μ-loop
 same-length-4 c = search needs
 
-returns : tie.Need-returns Inv-loop μ-loop
-returns c = tt
-
 same-length-5 : tie.Need-same-length-5 Inv-loop μ-loop
 same-length-5 c = search needs
+
+returns : tie.Need-returns Inv-loop μ-loop
+returns c = tt
 
 same-length-6 : tie.Need-same-length-6 Inv-loop μ-loop
 same-length-6 c = search needs
@@ -55,6 +56,12 @@ same-length-7 c = search needs
 
 same-length-8 : tie.Need-same-length-8 Inv-loop μ-loop
 same-length-8 c = search needs
+
+same-length-9 : tie.Need-same-length-9 Inv-loop μ-loop
+same-length-9 c = search needs
+
+same-length-10 : tie.Need-same-length-10 Inv-loop μ-loop
+same-length-10 c = search needs
 
 returns-2 : tie.Need-returns-2 Inv-loop μ-loop
 returns-2 c = tt
@@ -74,9 +81,11 @@ answer-all-spec =
     same-length-2
     same-length-3
     same-length-4
-    returns
     same-length-5
+    returns
     same-length-6
     same-length-7
     same-length-8
+    same-length-9
+    same-length-10
     returns-2)

@@ -8,11 +8,11 @@ use Rattle.leaves.proofs.answer_lines.Statement.{statement}
 use Rattle.leaves.proofs.answer_lines.Tie as tie
 
 abbrev Inv-loop : tie.InvT-loop
-Inv-loop s out₀ pool₀ values₀ st₀ left₀ out pool values st left =
-    (length out ≡ length out₀) × (length pool ≡ length pool₀) × (length values ≡ length values₀)
+Inv-loop s out₀ pool₀ lent₀ values₀ st₀ left₀ out pool lent values st left =
+    (length out ≡ length out₀) × (length pool ≡ length pool₀) × (length lent ≡ length lent₀) × (length values ≡ length values₀)
 
 abbrev μ-loop : tie.MeasureT-loop
-μ-loop s out₀ pool₀ values₀ st₀ left₀ out pool values st left = left
+μ-loop s out₀ pool₀ lent₀ values₀ st₀ left₀ out pool lent values st left = left
 
 loop-holds : tie.Need-loop-holds Inv-loop μ-loop
 loop-holds c = search needs
@@ -41,17 +41,23 @@ same-length-2 c = search needs
 same-length-3 : tie.Need-same-length-3 Inv-loop μ-loop
 same-length-3 c = search needs
 
-returns : tie.Need-returns Inv-loop μ-loop
-returns c = tt
-
 same-length-4 : tie.Need-same-length-4 Inv-loop μ-loop
 same-length-4 c = search needs
+
+returns : tie.Need-returns Inv-loop μ-loop
+returns c = tt
 
 same-length-5 : tie.Need-same-length-5 Inv-loop μ-loop
 same-length-5 c = search needs
 
 same-length-6 : tie.Need-same-length-6 Inv-loop μ-loop
 same-length-6 c = search needs
+
+same-length-7 : tie.Need-same-length-7 Inv-loop μ-loop
+same-length-7 c = search needs
+
+same-length-8 : tie.Need-same-length-8 Inv-loop μ-loop
+same-length-8 c = search needs
 
 returns-2 : tie.Need-returns-2 Inv-loop μ-loop
 returns-2 c = tt
@@ -71,8 +77,10 @@ answer-lines-spec =
     same-length
     same-length-2
     same-length-3
-    returns
     same-length-4
+    returns
     same-length-5
     same-length-6
+    same-length-7
+    same-length-8
     returns-2)

@@ -3,6 +3,8 @@
 use std::io::{BufWriter, Read, Write};
 use std::process::ExitCode;
 
+use oracle::a1_damage::damaged_copy;
+use oracle::a1_lines::{every_column, every_reference, longest_answers};
 use oracle::command::{number, run_command};
 use oracle::curated;
 use oracle::drive::SPACE;
@@ -19,7 +21,8 @@ use oracle::tour::Tour;
 
 const USAGE: &str = "usage: oracle report < job | saved [SPACE] < job | job SEED NUMBER [CLASS] | classes | tour SEED COUNT \
     | store SEED < curated.txt | list SEED COUNT | damage-list < list | replay < list \
-    | leaves < lines | leaf-lines LEAF SEED COUNT | leaf-lines every-split LENGTH | leaf-lines every-channel";
+    | leaves < lines | damage-lines COUNT < lines | leaf-lines LEAF SEED COUNT | leaf-lines every-split LENGTH \
+    | leaf-lines every-channel | leaf-lines every-reference LENGTH | leaf-lines every-column | leaf-lines longest-answers";
 
 fn main() -> ExitCode {
     run_command("oracle", run)
@@ -42,10 +45,17 @@ fn run(args: &[&str]) -> Result<(), String> {
         ["damage-list"] => damage_list(),
         ["replay"] => replay(),
         ["leaves"] => leaves(),
+        ["damage-lines", count] => damage_lines(number(count)? as usize),
         ["leaf-lines", "every-channel"] => leaf_lines(&mut |put| every_channel(put)),
+        ["leaf-lines", "every-column"] => leaf_lines(&mut |put| every_column(put)),
+        ["leaf-lines", "longest-answers"] => leaf_lines(&mut |put| longest_answers(put)),
         ["leaf-lines", "every-split", longest] => {
             let longest = number(longest)? as u32;
             leaf_lines(&mut |put| every_split(longest, put))
+        }
+        ["leaf-lines", "every-reference", longest] => {
+            let longest = number(longest)? as u32;
+            leaf_lines(&mut |put| every_reference(longest, put))
         }
         ["leaf-lines", leaf, seed, lines] if LEAVES.contains(leaf) => {
             let (mut rng, lines) = (Rng::new(number(seed)?, 0), number(lines)?);
@@ -118,6 +128,13 @@ fn leaves() -> Result<(), String> {
         writeln!(out, "{answer}").map_err(|e| format!("standard output: {e}"))?;
     }
     out.flush().map_err(|e| format!("standard output: {e}"))
+}
+
+/// Writes damaged copies of some `typed` lines.
+fn damage_lines(count: usize) -> Result<(), String> {
+    let lines = String::from_utf8(input()?).map_err(|_| "the lines are no text".to_string())?;
+    let damaged = damaged_copy(&lines.lines().collect::<Vec<_>>(), count);
+    leaf_lines(&mut |put| damaged.iter().for_each(|line| put(line)))
 }
 
 /// Writes the lines that `make` hands over.

@@ -1,0 +1,9 @@
+pub mod Runs
+pub mod Columns
+pub mod Cells
+pub mod Quotes
+pub mod Names
+pub mod Storing
+pub mod Sheets
+pub mod References
+pub mod Examples

@@ -1,0 +1,11 @@
+pub mod Classes
+pub mod Runs
+pub mod Columns
+pub mod Parts
+pub mod Quotes
+pub mod Names
+pub mod Spellings
+pub mod Meanings
+pub mod Trimmed
+pub mod Operands
+pub mod Examples

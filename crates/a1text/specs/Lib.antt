@@ -1,0 +1,5 @@
+pub mod Bytes
+pub mod Names
+pub mod Columns
+pub mod Spelling
+pub mod A1

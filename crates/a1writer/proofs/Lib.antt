@@ -1,0 +1,5 @@
+pub mod Tests
+pub mod Texts
+pub mod Doubled
+pub mod Answers
+pub mod Examples
