@@ -1,12 +1,13 @@
 -- References computed on the definition: what each text reads as, and how it is written. Assumes nothing.
 use Prim.Native.Nat.{ℕ}
 use mathlib.Core.Path.{_≡_, refl}
-use mathlib.Core.Bool.{Bool, true, false}
+use mathlib.Core.Bool.{true, false}
 use mathlib.Core.List.{List, [], _∷_, _++_}
 use mathlib.Core.Option.{Option, none, some}
-use lib.ListN.{length, replicate, take, drop}
+use lib.ListN.{replicate}
 use Rattle.model.specs.Readings.{every}
-use Rattle.model.specs.Split.{blank, dropBlanks, trimmed, withoutEquals, formula, begins, operatorAt, orLater, scan, split, behind, rightPart, ahead, leftPart}
+use Rattle.model.specs.Split.{blank, dropBlanks, trimmed, withoutEquals, formula, begins, operatorAt, orLater, scan, split}
+use Rattle.model.specs.Split.{behind, rightPart, ahead, leftPart}
 use Rattle.grammar.specs.Parts.{bytes}
 use Rattle.grammar.specs.Numbers.{digits, decimalFrom, decimalAt}
 use Rattle.jobtext.specs.Written.{Reference}
@@ -17,9 +18,10 @@ use Rattle.a1text.specs.Spelling.{spelling}
 use Rattle.a1text.specs.A1.{nameMeant, means, nameSpelled, spelled, isNamed, hasText, a1, ending, referenceOf, operandRead}
 
 computed : Unit {0}
-unfolding every blank dropBlanks trimmed withoutEquals formula begins operatorAt orLater scan split behind rightPart ahead leftPart bytes digits decimalFrom decimalAt
-    isCapital isSmall isLetter isDigit isWordByte isPrintable raised beginsWith taken isName isBare doubled nameOk nameText unquotedFrom quotedP bareP nameP
-    columnFrom columnNumber capitals isColumn lettersP rowP markP markText spelling nameMeant means nameSpelled spelled isNamed hasText ending referenceOf operandRead
+unfolding every blank dropBlanks trimmed withoutEquals formula begins operatorAt orLater scan split behind rightPart ahead leftPart
+    bytes digits decimalFrom decimalAt isCapital isSmall isLetter isDigit isWordByte isPrintable raised beginsWith taken
+    isName isBare doubled nameOk nameText unquotedFrom quotedP bareP nameP columnFrom columnNumber capitals isColumn
+    lettersP rowP markP markText spelling nameMeant means nameSpelled spelled isNamed hasText ending referenceOf operandRead
 computed = tt
 
 abbrev cell : ℕ → ℕ → Option Reference
@@ -140,11 +142,17 @@ too-long-a-name = refl
 
 -- ---- written
 
-written : a1 .text (record { row = 11; col = 27; rowAbsolute = true; colAbsolute = false; name = some (bytes "it's") }) ≡ bytes "'it''s'!AB$12"
+abbrev quoted : Reference
+quoted = record { row = 11; col = 27; rowAbsolute = true; colAbsolute = false; name = some (bytes "it's") }
+
+written : a1 .text quoted ≡ bytes "'it''s'!AB$12"
 unfolding computed
 written = refl
 
-written-bare : a1 .text (record { row = 0; col = 701; rowAbsolute = false; colAbsolute = true; name = some (bytes "Sheet_1") }) ≡ bytes "Sheet_1!$ZZ1"
+abbrev plain : Reference
+plain = record { row = 0; col = 701; rowAbsolute = false; colAbsolute = true; name = some (bytes "Sheet_1") }
+
+written-bare : a1 .text plain ≡ bytes "Sheet_1!$ZZ1"
 unfolding computed
 written-bare = refl
 

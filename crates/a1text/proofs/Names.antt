@@ -3,22 +3,22 @@
 use Prim.Native.Nat.{ℕ, suc, _+_}
 use mathlib.Core.Path.{_≡_, refl, sym, ap, _∙_}
 use mathlib.Core.Bool.{Bool, true, false, cond, not, _&&_, and-eq-true-iff}
-use mathlib.Core.List.{List, [], _∷_, _++_, append-assoc, append-nil}
+use mathlib.Core.List.{List, [], _∷_, _++_, append-assoc}
 use native.Mathlib.Omega.{arith}
 use lib.Dec.{eqb}
 use lib.ListN.{length, drop, getD, length-append}
 use lib.Seq.{getD-drop}
 use borrow.Author.Tests.{eqb-true, ne-eqb, not-true}
 use Rattle.model.specs.Readings.{every}
-use Rattle.grammar.specs.Gram.{Got, Before}
+use Rattle.grammar.specs.Gram.{Before}
 use Rattle.grammar.specs.Gram.Got.{got, bad}
-use Rattle.grammar.specs.Parts.{then, bytes}
+use Rattle.grammar.specs.Parts.{bytes}
 use Rattle.grammar.proofs.Places.{past, at-head, bad-got, Steps, steps}
 use Rattle.a1text.specs.Bytes.{isLetter, isWordByte, beginsWith, taken}
 use Rattle.a1text.specs.Names.{Name, isName, isBare, doubled, nameOk, nameText, unquotedFrom, quotedP, bareP, nameP, sheetName}
 use Rattle.a1text.proofs.Classes.{letter-range, exclamation-no-word}
 use Rattle.a1text.proofs.Quotes.{isQuote, unquoted-reads, unquoted-is}
-use Rattle.a1text.proofs.Runs.{taken-all, taken-passes, run, at-place, begins-first, every-at}
+use Rattle.a1text.proofs.Runs.{taken-all, run, at-place, begins-first, every-at}
 use Rattle.a1text.proofs.Parts.{stands}
 
 abbrev pub noExclamation : ℕ → Bool

@@ -1,12 +1,12 @@
 -- What is read of a whole text, and of what was written. Assumes nothing.
-use Prim.Native.Nat.{ℕ, _≤_, _<_}
+use Prim.Native.Nat.{ℕ, _≤_}
 use mathlib.Core.Path.{_≡_, refl, sym, ap, _∙_}
 use mathlib.Core.Logic.{_⊎_, inl, inr}
-use mathlib.Core.Bool.{Bool, true, false, cond, _&&_, _||_}
-use mathlib.Core.List.{List, reverse}
-use mathlib.Core.Option.{Option, none, some}
+use mathlib.Core.Bool.{Bool, true, false, cond}
+use mathlib.Core.List.{List}
+use mathlib.Core.Option.{none, some}
 use native.Mathlib.Omega.{arith}
-use lib.Dec.{leb, eqb}
+use lib.Dec.{eqb}
 use lib.ListN.{length}
 use borrow.Author.Tests.{eqb-true, eq-eqb, ne-eqb, lt-leb, le-leb}
 use Rattle.model.specs.Split.{blank, trimmed, formula}
@@ -15,8 +15,8 @@ use Rattle.grammar.specs.Gram.Got.{got, bad}
 use Rattle.grammar.proofs.Places.{from}
 use Rattle.grammar.proofs.Before.{accepted, accepts}
 use Rattle.jobtext.specs.Written.{Reference}
-use Rattle.a1text.specs.Bytes.{isLetter, isDigit, beginsWith}
-use Rattle.a1text.specs.Spelling.{Spelling, spelling}
+use Rattle.a1text.specs.Bytes.{isLetter, isDigit}
+use Rattle.a1text.specs.Spelling.{spelling}
 use Rattle.a1text.specs.A1.{means, spelled, hasText, a1, Spells, ending, referenceOf, operandRead}
 use Rattle.a1text.proofs.Classes.{either-true, letter-range, digit-range}
 use Rattle.a1text.proofs.Parts.{isMark}

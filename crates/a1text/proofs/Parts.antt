@@ -1,19 +1,19 @@
 -- The parts of a cell, each exact before what may follow it: `$` or not, letters, digits. Assumes nothing.
 use Prim.Native.Nat.{ℕ, zero, suc, _+_, _*_, _/_, _%_, _^_, _≤_, _<_}
 use mathlib.Core.Path.{_≡_, refl, sym, ap, _∙_}
-use mathlib.Core.Bool.{Bool, true, false, cond, not, _&&_}
+use mathlib.Core.Bool.{Bool, true, false, cond, not}
 use mathlib.Core.List.{List, [], _∷_, _++_, append-nil}
 use native.Mathlib.Omega.{arith}
 use lib.Dec.{leb, ltb, eqb}
 use lib.ListN.{length, drop, getD}
-use borrow.Author.Tests.{leb-true, le-leb, eqb-true, eqb-false, ltb-true, ltb-false}
+use borrow.Author.Tests.{leb-true, le-leb, eqb-true, ltb-true, ltb-false}
 use Rattle.model.specs.Readings.{every}
-use Rattle.grammar.specs.Gram.{Got, Before}
+use Rattle.grammar.specs.Gram.{Before}
 use Rattle.grammar.specs.Gram.Got.{got, bad}
 use Rattle.grammar.specs.Parts.{bytes, kept}
 use Rattle.grammar.specs.Numbers.{decimalText, decimalAt}
-use Rattle.grammar.proofs.Places.{past, here, bad-got, Steps, steps}
-use Rattle.grammar.proofs.Decimals.{decimal-small, decimal-large, read-whole, read-is}
+use Rattle.grammar.proofs.Places.{past, bad-got, Steps, steps}
+use Rattle.grammar.proofs.Decimals.{top, decimal-small, decimal-large, read-whole, read-is}
 use Rattle.a1text.specs.Bytes.{isLetter, isDigit, beginsWith, taken}
 use Rattle.a1text.specs.Columns.{isColumn, lettersP, letters, rows, rowP, row, markP, markText, mark}
 use Rattle.a1text.proofs.Classes.{every-append, every-two, every-none}
@@ -175,11 +175,6 @@ pub record Digits (l : List ℕ) : Type 0 where
 digit-is : (b : ℕ) → 48 ≤ b → b ≤ 57 → isDigit b ≡ true
 unfolding isDigit
 digit-is b g h = rw (le-leb 48 b g, le-leb b 57 h)
-
--- the numbers below it have at most k + 1 digits
-abbrev top : ℕ → ℕ
-top zero = 10
-top (suc k) = top k * 10
 
 module _ (n : ℕ) (bound : n < 2 ^ 64) where
   digits-few : n < 10 → Digits (decimalText n)

@@ -1,13 +1,11 @@
 -- A whole text is accepted where and only where it is the text of a spelling, and of one alone; how such a text begins and ends.
 -- Assumes nothing.
 use Prim.Native.Nat.{ℕ, _+_, _≤_, _<_}
-use mathlib.Core.Path.{_≡_, refl, sym, ap, _∙_}
+use mathlib.Core.Path.{_≡_, refl, ap, _∙_}
 use mathlib.Core.Logic.{_⊎_, inl, inr}
-use mathlib.Core.Bool.{Bool, true, false, not, _&&_, _||_, and-eq-true-iff}
-use mathlib.Core.List.{List, [], _∷_, _++_, append-assoc, append-nil, reverse, reverse-append}
+use mathlib.Core.Bool.{Bool, true, false, _||_, and-eq-true-iff}
+use mathlib.Core.List.{List, [], _∷_, _++_, append-nil, reverse, reverse-append}
 use native.Mathlib.Omega.{arith}
-use lib.Dec.{eqb}
-use lib.ListN.{length}
 use borrow.Author.Tests.{eqb-true, ne-eqb}
 use Rattle.model.specs.Readings.{every}
 use Rattle.grammar.specs.Gram.{Before}
@@ -16,10 +14,10 @@ use Rattle.grammar.specs.Numbers.{decimalText}
 use Rattle.grammar.proofs.Before.{following-before, readAs-before}
 use Rattle.grammar.proofs.Decimals.{decimal-begins}
 use Rattle.a1text.specs.Bytes.{isLetter, isDigit, beginsWith}
-use Rattle.a1text.specs.Names.{Name, isName, isBare, nameOk, nameText, sheetName}
+use Rattle.a1text.specs.Names.{Name, isName, isBare, nameOk, nameText}
 use Rattle.a1text.specs.Columns.{columnNumber, columnFrom, isColumn, letters, rows, row, markText, mark}
 use Rattle.a1text.specs.Spelling.{Spelling, toSpelling, ofSpelling, spelling}
-use Rattle.a1text.proofs.Classes.{either-true, letter-range, digit-range, every-weaker, every-append, every-cons, every-two, every-none}
+use Rattle.a1text.proofs.Classes.{either-true, letter-range, digit-range, every-weaker, every-append, every-cons}
 use Rattle.a1text.proofs.Columns.{column-is}
 use Rattle.a1text.proofs.Quotes.{isQuote}
 use Rattle.a1text.proofs.Parts.{isMark, mark-before, letters-before, row-before, row-digits}
@@ -156,7 +154,8 @@ cell-before =
     following-before mark-before (λ _. letters-part)
     (λ c x t o e.
     rw (alone (x .0 ++ rowText (x .1 .0) (x .1 .1)) t e)
-    (begins-apart isLetter isMark letter-no-mark _ (begins-append isLetter (x .0) (rowText (x .1 .0) (x .1 .1)) (letters-begin (x .0) (o .0)))))
+    (begins-apart isLetter isMark letter-no-mark _
+    (begins-append isLetter (x .0) (rowText (x .1 .0) (x .1 .1)) (letters-begin (x .0) (o .0)))))
 
 nameless : (x : Bool × (List ℕ × (Bool × ℕ))) (t : List ℕ) → both mark (both letters (both mark row)) .Ok x → t ≡ []
     → Nameless (both mark (both letters (both mark row)) .text x ++ t)
@@ -170,7 +169,8 @@ nameless x t o e =
 pub spelling-before : Before spelling (λ t. t ≡ [])
 unfolding spelling
 spelling-before =
-    readAs-before (following-before name-before (λ _. cell-before) (λ n x t o e. nameless x t o e)) toSpelling ofSpelling (λ x o. refl) (λ p. refl)
+    readAs-before (following-before name-before (λ _. cell-before) (λ n x t o e. nameless x t o e)) toSpelling ofSpelling
+    (λ x o. refl) (λ p. refl)
 
 -- ---- how the text of a spelling begins and ends
 

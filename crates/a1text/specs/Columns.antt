@@ -7,7 +7,7 @@ use mathlib.Core.List.{List, [], _∷_, _++_}
 use lib.Dec.{leb, ltb, eqb}
 use lib.ListN.{length, drop, getD}
 use Rattle.model.specs.Readings.{every}
-use Rattle.grammar.specs.Gram.{Got, Parser, Gram}
+use Rattle.grammar.specs.Gram.{Parser, Gram}
 use Rattle.grammar.specs.Gram.Got.{got, bad}
 use Rattle.grammar.specs.Parts.{then, bytes, kept}
 use Rattle.grammar.specs.Numbers.{decimalText, decimalAt}

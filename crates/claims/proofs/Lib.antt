@@ -5,4 +5,5 @@ pub mod TextsHeld
 pub mod SavingHeld
 pub mod Walks
 pub mod FollowingHeld
+pub mod ReferenceCalls
 pub mod ReferencesHeld

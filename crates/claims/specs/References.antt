@@ -6,7 +6,7 @@ use mathlib.Core.Path.{_≡_}
 use mathlib.Core.Logic.{_↔_}
 use mathlib.Core.Bool.{true, false}
 use mathlib.Core.List.{List}
-use mathlib.Core.Option.{none, some}
+use mathlib.Core.Option.{none}
 use contract.Lifetimes.{Lfts}
 use lib.ListN.{length, take, replicate}
 use Rattle.memory.specs.Memory.{page}
@@ -120,9 +120,9 @@ WrittenExactly = (w : Where) (r : A1Reference) (pool before after : List ℕ) (a
     → (a ≡ WrittenReference.Written (length (a1 .text (referenceSaid pool r))))
     × (after ≡ page (length before) (a1 .text (referenceSaid pool r))))
 
--- a reference has a text exactly if some text is one of it
+-- the text of a reference that has one spells it, and a reference that any text spells has one
 abbrev pub HasText : Type 0
-HasText = (r : Reference) → (hasText r ≡ true) ↔ Spells (a1 .text r) r
+HasText = (r : Reference) → (hasText r ≡ true → Spells (a1 .text r) r) × ((s : List ℕ) → Spells s r → hasText r ≡ true)
 
 -- references with the same text are the same, and those that are the same have the same text
 abbrev pub OneText : Type 0
@@ -155,7 +155,7 @@ ColumnsInverse = ((n : ℕ) → n < columns → (columnNumber (columnText n) ≡
 
 -- on a part of a formula that has an operator the reader gives what it gives on those bytes trimmed
 abbrev pub PartsReadAsTrimmed : Type 0
-PartsReadAsTrimmed = (w v : Where) (bs before before′ after after′ : List ℕ) (op : ConditionalComparison) (at width : ℕ) (a b : ReadReference)
-    → split bs ≡ Split.At op at width → length before ≡ length before′
+PartsReadAsTrimmed = (w v : Where) (bs before before′ after after′ : List ℕ) (op : ConditionalComparison) (at width : ℕ)
+    (a b : ReadReference) → split bs ≡ Split.At op at width → length before ≡ length before′
     → (Reads w (leftPart bs) before a after → Reads v (trimmed (leftPart bs)) before′ b after′ → (a ≡ b) × (after ≡ after′))
     × (Reads w (rightPart bs) before a after → Reads v (trimmed (rightPart bs)) before′ b after′ → (a ≡ b) × (after ≡ after′))
