@@ -21,12 +21,12 @@ extern "C" {
 #define WAVENDIRU_MAX_TEXT 65536
 
 /* The bytes of the longest report that any job can have: a report buffer of this length is always long enough. */
-#define WAVENDIRU_LONGEST_REPORT 42979
+#define WAVENDIRU_LONGEST_REPORT 45033
 
 /* The bytes of stack that wavendiru_whole_job and wavendiru_save_job need on x86-64, with what the loader takes to bind memcpy and memset at
  * their first call. Measured; tests/c/stack fails where it measures more.
  */
-#define WAVENDIRU_STACK 178496
+#define WAVENDIRU_STACK 206272
 
 /* The number of a report, the first field of its second line. Behind it stand place, count and actual; S is the job's starting count.
  * A refusal has no marks. 1, 5 and 6 are refusals of lent columns; no job text has them. 7, 8 and 9 are refusals of deciding, 13 of saving.
@@ -45,6 +45,16 @@ enum wavendiru_number {
     WAVENDIRU_LONG_TEXT = 10,       /* a job text over WAVENDIRU_MAX_TEXT bytes: 0, 0, 0 */
     WAVENDIRU_BAD_LINE = 11,        /* a line of the job text is malformed, missing or extra: its number from 1, 0, 0 */
     WAVENDIRU_LONG_SAVED = 13       /* a text to be saved is longer than the lent bytes: 0, S, the length needed */
+};
+
+/* The shape of a mark, the last field of its line in a report: between which ends the ratio behind its bar or colour was taken. The marks of
+ * rules that are neither scales nor bars have `-` there. wavendiru_ratio gives the parts per million alone.
+ */
+enum wavendiru_shape {
+    WAVENDIRU_PLAIN = 0,
+    WAVENDIRU_FLAT = 1,       /* maximum <= minimum: the ratio is 1,000,000 */
+    WAVENDIRU_TOO_WIDE = 2,   /* not flat, and maximum - minimum is not finite: the ratio is 0 */
+    WAVENDIRU_UPPER_HALF = 3  /* added to these where a scale of three colours used its upper half */
 };
 
 /* A whole job: reads the job text, decides its marks and bars, and writes the report.

@@ -26,9 +26,24 @@ static void longest(void)
         add("0 0 0 0 - 0 0 expr 0 u u 00ff00\n");
 }
 
+/* Bars and scales of every shape that there is: over 1, 1, 2 and over -F, -F, F, F being the largest number. A fill has none. */
+static void every_shape(void)
+{
+    start();
+    add("limit start cells regions rules name\n1000 0 6 6 10 t53\nrow col wraps value\n");
+    add("0 0 0 n3ff0000000000000\n1 0 0 n3ff0000000000000\n2 0 0 n4000000000000000\n");
+    add("3 0 0 nffefffffffffffff\n4 0 0 nffefffffffffffff\n5 0 0 n7fefffffffffffff\n");
+    add("row col\n0 0\n1 0\n2 0\n3 0\n4 0\n5 0\n");
+    add("top left bottom right priority stop imported rule p1 p2 p3 p4\n");
+    add("0 0 1 0 - 0 0 bar 00ff00 - - -\n1 0 2 0 - 0 1 bar 00ff00 - - -\n4 0 5 0 - 0 0 bar 00ff00 - - -\n");
+    add("0 0 1 0 - 0 0 scale2 ff0000 0000ff - -\n1 0 2 0 - 0 0 scale2 ff0000 0000ff - -\n4 0 5 0 - 0 1 scale2 ff0000 0000ff - -\n");
+    add("0 0 2 0 - 0 0 scale3 ff0000 00ff00 0000ff -\n3 0 5 0 - 0 0 scale3 ff0000 00ff00 0000ff -\n");
+    add("3 0 5 0 - 0 1 scale3 ff0000 00ff00 0000ff -\n0 0 5 0 - 0 1 cellis 6 n4000000000000000 - ff0000\n");
+}
+
 static void lengths_of_a_report(void)
 {
-    static const size_t lengths[] = {0, 1, 65, 192, 193, 194, 195, 1000, WAVENDIRU_LONGEST_REPORT, MOST_REPORT};
+    static const size_t lengths[] = {0, 1, 65, 204, 205, 206, 207, 1000, WAVENDIRU_LONGEST_REPORT, MOST_REPORT};
     worked("100");
     call("worked", 0, 1);
     for (size_t i = 0; i < sizeof lengths / sizeof lengths[0]; i++)
@@ -37,12 +52,14 @@ static void lengths_of_a_report(void)
     call("longest", WAVENDIRU_LONGEST_REPORT - 1, 0);
     call("longest", WAVENDIRU_LONGEST_REPORT, 0);
     call("longest", WAVENDIRU_LONGEST_REPORT + 1, 0);
+    every_shape();
+    call("every shape", WAVENDIRU_LONGEST_REPORT, 0);
 }
 
 static void refusals(void)
 {
     worked("11");
-    call("worked, limit 11", 200, 0);
+    call("worked, limit 11", 212, 0);
     worked("10");
     call("worked, limit 10", 69, 0);
     call("worked, limit 10", 68, 0);

@@ -215,6 +215,7 @@ def plain_jobs():
     )
     yield from reference_jobs()
     yield from order_jobs()
+    yield from shape_jobs()
 
 
 def reference_jobs():
@@ -374,6 +375,42 @@ def order_jobs():
     job = down(1.0, 2.0, b"", b"")
     job["ats"][0], job["lens"][0], job["nums"][2], job["nums"][3], job["ats"][3] = 4294967295, 4294967295, 5, 2**64 - 1, 5
     yield "numbers where nothing is read", add(job, same((2, 0, 3, 0)), mean(rows(4)))
+
+
+def shape_jobs():
+    both = (False, True)
+    plain, flat, wide = (0, 0, 1, 0), (2, 0, 3, 0), (3, 0, 4, 0)
+    ends = lambda **more: down(1.0, 2.0, -F, -F, F, **more)
+    yield "shapes of bars: plain, flat, too wide", add(ends(), *[bar(area, imported=k) for area in (plain, flat, wide) for k in both])
+    yield "shapes of two colours: plain, flat, too wide", add(
+        ends(start=5), *[scale2(area, RED, BLUE, imported=k) for area in (plain, flat, wide) for k in both]
+    )
+    yield "shapes of both zeros and of the least number", add(down(0.0, -0.0, TINY), bar(rows(2)), scale2((1, 0, 2, 0), RED, BLUE))
+    yield "shapes on both sides of the widest difference", add(
+        sheet([(0, 0, F), (0, 1, -(2.0**970 - 2.0**917)), (1, 0, F), (1, 1, -(2.0**970))]),
+        *[make(area) for area in ((0, 0, 0, 1), (1, 0, 1, 1)) for make in (bar, lambda a: scale2(a, RED, BLUE))],
+    )
+    for title, values in (
+        ("plain in both halves", (1.0, 2.0, 3.0)),
+        ("flat in the lower half, plain in the upper", (1.0, 1.0, 2.0)),
+        ("flat in the lower half, too wide in the upper", (-F, -F, F)),
+        ("too wide in the lower half, plain in the upper", (-F, 0.9 * F, F)),
+        ("too wide in the lower half alone", (-F, F, F)),
+        ("too wide as a whole, plain in each half", (-F, 0.0, F)),
+        ("flat as a whole", (7.0, 7.0, 7.0)),
+    ):
+        yield f"shapes of three colours: {title}", add(down(*values), *[scale3(rows(3), RED, GREEN, BLUE, imported=k) for k in both])
+    yield "shapes of three colours whose midpoint is no value", add(
+        down(TINY, TINY, 3 * TINY, 3 * TINY, -F, F),
+        *[scale3(area, RED, GREEN, BLUE) for area in ((0, 0, 1, 0), (2, 0, 3, 0), (4, 0, 5, 0))],
+    )
+    yield "shapes of imported styles, with a ratio and without", add(
+        down(5.0, 5.0, b"x"),
+        *[make(rows(3), imported=k) for make in (lambda a, **m: cellis(a, 2, lit(5.0), **m), bar, mean, same) for k in both],
+        scale2(rows(3), RED, BLUE, imported=True),
+        scale3(rows(3), RED, GREEN, BLUE, imported=True, stop=True),
+        expr(rows(3), 0, lit(1.0), lit(1.0), imported=True),
+    )
 
 
 # ---- jobs near the end of the counter, and large ones

@@ -2,9 +2,10 @@
 """Writes the lists of the program `tries`, and what it has to print on them. Run in the repository's root:
 
     tools/columns/make.py                writes crates/tries/data/*, crates/tries/args and crates/tries/stdout
-    tools/columns/make.py --texts DIR    writes each answered job that a text can say as DIR/N.job, and its report as DIR/N.report
+    tools/columns/make.py --texts DIR    writes each job that a text can say, at each of its limits, as DIR/N-LIMIT.job, and its report
+                                         as DIR/N-LIMIT.report
 
-Every expected value is worked out by reference.py from document 01, none by the program's own code.
+Every expected value is worked out by reference.py from documents 01 and 02, none by the program's own code.
 """
 import copy
 import os
@@ -13,7 +14,7 @@ import sys
 sys.dont_write_bytecode = True
 
 import jobs
-from reference import CELLIS, COLUMNS, EXPR, FIELDS, TOP, resolve
+from reference import BAR_PPMS, BAR_RULES, CELLIS, COLUMNS, EXPR, FIELDS, MARKS, SCRATCH, TOP, resolve
 
 CRATE = os.path.join("crates", "tries")
 LONGEST = 1040
@@ -25,9 +26,9 @@ HEAD = """\
 # A record: top, left, bottom, right, priority written, priority, stop, imported, kind, operator or direction, rank, percent, three colours;
 #   eight words for each of two operands (0 for unread; 1 and bits for a literal; 2, row, col, row absolute, col absolute, named, at and len
 #   for a reference); and a 0.
-# A run: the limit and the lengths of the eight columns lent for writing; then what is expected: number, place, count, actual, marks,
-#   deferred, simplified; and of regions, rule_indices, mark_kinds, colours, ppms, bar_rules, bar_ppms and scratch (0 for zero, else 1)
-#   how many numbers follow, and these; the others are 0.
+# A run: the limit and the lengths of the nine columns lent for writing; then what is expected: number, place, count, actual, marks,
+#   deferred, simplified; and of regions, rule_indices, mark_kinds, colours, ppms, shapes, bar_rules, bar_ppms and scratch (0 for zero,
+#   else 1) how many numbers follow, and these; the others are 0.
 """
 
 
@@ -36,7 +37,8 @@ HEAD = """\
 
 def lent_lengths(job, space, turn):
     """The shortest of the mark columns is the space, each in its turn; the others, the bar columns and scratch are longer by a little."""
-    marks = [min(space + (0 if i == turn % 5 else 1 + (i + turn) % 3), LONGEST) for i in range(5)]
+    number = len(MARKS)
+    marks = [min(space + (0 if i == turn % number else 1 + (i + turn) % 3), LONGEST) for i in range(number)]
     regions, cells = len(job["region_rows"]), len(job["rows"])
     more = [min(n, LONGEST) for n in (regions + turn % 3, regions + (turn + 1) % 2, cells + turn % 4)]
     return marks + more
@@ -44,7 +46,7 @@ def lent_lengths(job, space, turn):
 
 def limits_and_spaces(job):
     """Limits and mark spaces to run a job with."""
-    (number, _, count, _, marks, _, _), _ = resolve(job, TOP, [1 << 20] * 8)
+    (number, _, count, _, marks, _, _), _ = resolve(job, TOP, [1 << 20] * len(COLUMNS))
     start = job["start"]
     if number == 8:
         return [(limit, 3) for limit in sorted({0, start - 1, start, min(start + 1, TOP), TOP - 1, TOP})]
@@ -62,21 +64,32 @@ def limits_and_spaces(job):
     return [(limit, full) for limit in sorted(set(limits))] + [(TOP, space) for space in sorted(spaces) if space != full]
 
 
-def runs_of(title, job):
-    runs = [(limit, lent_lengths(job, space, turn)) for turn, (limit, space) in enumerate(limits_and_spaces(job))]
+def shape_lengths(job):
+    """Mark columns of one length but for the shapes, which alone are too short, exact, the shortest, or the longest."""
+    (_, _, _, _, marks, _, _), _ = resolve(job, TOP, [1 << 20] * len(COLUMNS))
+    lent = lent_lengths(job, 0, 0)[len(MARKS) :]
+    for others, shapes in ((marks + 2, 0), (marks + 2, marks - 1), (marks + 2, marks), (marks, marks + 3), (marks - 1, marks + 3)):
+        yield [others] * (len(MARKS) - 1) + [shapes] + lent
+
+
+def runs_of(turn, title, job):
+    """The runs of a job; which column is the shortest in the first of them goes by the turn."""
+    runs = [(limit, lent_lengths(job, space, turn + i)) for i, (limit, space) in enumerate(limits_and_spaces(job))]
     if title.startswith("6:"):
-        enough = [9, 9, 9, 9, 9, len(job["region_rows"]), len(job["region_rows"]), len(job["rows"])]
+        enough = [9] * len(MARKS) + [len(job["region_rows"]), len(job["region_rows"]), len(job["rows"])]
         for limit in (0, TOP):
-            runs += [(limit, [n - (i == short) for i, n in enumerate(enough)]) for short in (5, 6, 7, None)]
-        runs += [(TOP, [9] * 5 + [0, 0, 0])]
+            runs += [(limit, [n - (i == short) for i, n in enumerate(enough)]) for short in (BAR_RULES, BAR_PPMS, SCRATCH, None)]
+        runs += [(TOP, [9] * len(MARKS) + [0, 0, 0])]
     elif title[0] in "12345":
-        runs += [(TOP, [0] * 8)]
+        runs += [(TOP, [0] * len(COLUMNS))]
+    elif title.startswith("shapes"):
+        runs += [(TOP, lengths) for lengths in shape_lengths(job)]
     return [(limit, lengths, *resolve(job, limit, lengths)) for limit, lengths in runs]
 
 
 def entries():
     found = [*jobs.plain_jobs(), *jobs.counter_jobs(), *jobs.large_jobs(), *jobs.refused_jobs(), *jobs.random_jobs(48, 2026)]
-    return [(title, job, runs_of(title, job)) for title, job in found]
+    return [(title, job, runs_of(turn, title, job)) for turn, (title, job) in enumerate(found)]
 
 
 # ---- texts of a list
@@ -164,7 +177,7 @@ def counts(found):
 
 def damaged(found):
     """A copy with one wrong value of each kind, each in a job of its own, and the lines that say so."""
-    wanted = [("field", i) for i in range(7)] + [(part, i) for i in range(8) for part in ("result", "tail", "refused")]
+    wanted = [("field", i) for i in range(7)] + [(part, i) for i in range(len(COLUMNS)) for part in ("result", "tail", "refused")]
     found = copy.deepcopy(found)
     lines = []
     for index, (_, _, runs) in enumerate(found):
@@ -191,7 +204,7 @@ def fits(spot, lengths, answer, columns):
         return False
     if part == "tail":
         return lengths[i] > max(len(columns[i]), 1)
-    return lengths[i] > 1 if i == 7 else any(columns[i])
+    return lengths[i] > 1 if i == SCRATCH else any(columns[i])
 
 
 def damage(spot, lengths, answer, columns):
@@ -200,7 +213,7 @@ def damage(spot, lengths, answer, columns):
         answer[i] += 1
         return FIELDS[i], answer[i], answer[i] - 1
     at = {"tail": lengths[i] - 1, "refused": lengths[i] // 2, "result": 0}[part]
-    if part == "result" and i != 7:
+    if part == "result" and i != SCRATCH:
         at = max(k for k, x in enumerate(columns[i]) if x)
     columns[i] += [0] * (at + 1 - len(columns[i]))
     given = columns[i][at]

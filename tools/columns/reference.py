@@ -1,4 +1,5 @@
-"""The call over lent columns, worked out from document 01 ('The lent sheet', 'Turned back', 'Modules', 'Rules').
+"""The call over lent columns, worked out from document 01 ('The lent sheet', 'Turned back', 'Modules', 'Rules') and, for the shape of a
+mark, from document 02.
 
 Plain Python: whole numbers are unbounded, floats are IEEE 754 binary64 and each operation rounds once.
 """
@@ -8,7 +9,9 @@ import struct
 MAX_ROW, MAX_COL = 1_048_575, 16_383
 TOP = 2**64 - 1
 CELLIS, SCALE2, SCALE3, BAR, RANK, MEAN, SAME, EXPR = range(1, 9)
-COLUMNS = ["regions", "rule_indices", "mark_kinds", "colours", "ppms", "bar_rules", "bar_ppms", "scratch"]
+MARKS = ["regions", "rule_indices", "mark_kinds", "colours", "ppms", "shapes"]
+COLUMNS = [*MARKS, "bar_rules", "bar_ppms", "scratch"]
+BAR_RULES, BAR_PPMS, SCRATCH = range(len(MARKS), len(COLUMNS))
 FIELDS = ["number", "place", "count", "actual", "marks", "deferred", "simplified"]
 
 
@@ -73,6 +76,17 @@ def ratio(value, least, greatest):
     x = min(max(x, 0.0), 1.0) * 1_000_000.0
     whole = math.floor(x)
     return whole + 1 if x - whole >= 0.5 else whole
+
+
+PLAIN, FLAT, TOO_WIDE = range(3)
+UPPER = 3
+
+
+def shape(least, greatest):
+    """What document 02 says of a ratio between these ends besides its ppm."""
+    if greatest <= least:
+        return FLAT
+    return PLAIN if math.isfinite(greatest - least) else TOO_WIDE
 
 
 def channel(start, end, part):
@@ -165,7 +179,7 @@ def check(job, lengths):
                 raise Turned(5, i, start, 0)
     if outside(job, *job["name"]):
         raise Turned(5, 64, start, 0)
-    if min(lengths[5:7]) < regions or lengths[7] < cells:
+    if min(lengths[BAR_RULES], lengths[BAR_PPMS]) < regions or lengths[SCRATCH] < cells:
         raise Turned(6, 0, start, 0)
 
 
@@ -210,8 +224,8 @@ class Run:
             if found is None:
                 self.deferred += 1
                 continue
-            for region, kind, colour, ppm in found:
-                self.marks.append((region, i, kind, colour, ppm))
+            for region, kind, colour, ppm, shaped in found:
+                self.marks.append((region, i, kind, colour, ppm, shaped))
                 if kind in (3, 4) and region not in self.bars:
                     self.bars[region] = (i + 1, ppm)
                 if rules[i]["stop"]:
@@ -304,7 +318,7 @@ class Run:
         return numeric(self.cells.get((row, col)))
 
     def paint(self, rule, test, at):
-        """Kind, colour and ppm of the mark at a region in range; None for no mark."""
+        """Kind, colour, ppm and shape of the mark at a region in range; None for no mark."""
         kind, cell = rule["kind"], self.cells.get(at)
         value = numeric(cell)
         if kind == EXPR:
@@ -326,39 +340,42 @@ class Run:
         if kind == MEAN:
             return self.filled(rule, value < test["mean"] if rule["flag"] else value > test["mean"])
         if kind == BAR:
-            return (4 if rule["imported"] else 3, rule["colours"][0], ratio(value, test["least"], test["greatest"]))
+            ends = test["least"], test["greatest"]
+            return (4 if rule["imported"] else 3, rule["colours"][0], ratio(value, *ends), shape(*ends))
         return self.scaled(rule, test, value)
 
     def filled(self, rule, holds):
         if not holds:
             return None
-        return (2, 0, 0) if rule["imported"] else (1, rule["colours"][0], 0)
+        return (2, 0, 0, 0) if rule["imported"] else (1, rule["colours"][0], 0, 0)
 
     def scaled(self, rule, test, value):
-        if rule["imported"]:
-            return (2, 0, 0)
         start, end, low, high = rule["colours"][0], rule["colours"][-1], test["least"], test["greatest"]
+        half = 0
         if rule["kind"] == SCALE3:
             if value <= test["midpoint"]:
                 end, high = rule["colours"][1], test["midpoint"]
             else:
-                start, low = rule["colours"][1], test["midpoint"]
-        return (1, between_colours(start, end, ratio(value, low, high)), 0)
+                start, low, half = rule["colours"][1], test["midpoint"], UPPER
+        shaped = shape(low, high) + half
+        if rule["imported"]:
+            return (2, 0, 0, shaped)
+        return (1, between_colours(start, end, ratio(value, low, high)), 0, shaped)
 
 
 # ---- the whole call
 
 
 def resolve(job, limit, lengths):
-    """The answer's seven fields and the eight columns, each without the zeros at its end."""
+    """The answer's seven fields and the nine columns, each without the zeros at its end."""
     try:
         check(job, lengths)
         done = Run(job, limit).run()
-        if len(done.marks) > min(lengths[:5]):
+        if len(done.marks) > min(lengths[: len(MARKS)]):
             raise Turned(9, 0, done.count, len(done.marks))
     except Turned as turned:
         return list(turned.args) + [0, 0, 0], [[] for _ in COLUMNS]
     bars = [done.bars.get(region, (0, 0)) for region in range(len(done.regions))]
-    columns = [[mark[field] for mark in done.marks] for field in range(5)]
+    columns = [[mark[field] for mark in done.marks] for field in range(len(MARKS))]
     columns += [[bar[0] for bar in bars], [bar[1] for bar in bars], []]
     return [0, 0, done.count, 0, len(done.marks), done.deferred, done.simplified], columns

@@ -1,7 +1,8 @@
-"""Job texts and reports (document 01, 'Job and report text') of the jobs of the list that a text can say."""
+"""Job texts and reports of the jobs of the list that a text can say (document 01, and document 02 for bar cells and shapes)."""
 import os
 
-from reference import BAR, CELLIS, EXPR, MEAN, RANK, SAME, SCALE2, SCALE3, TOP, float_of, resolve, used_operands
+from reference import BAR, CELLIS, EXPR, MEAN, RANK, SAME, SCALE2, SCALE3
+from reference import BAR_PPMS, BAR_RULES, COLUMNS, MARKS, TOP, float_of, resolve, used_operands
 
 
 def pooled(job, at, length):
@@ -59,17 +60,23 @@ def job_text(job, limit):
     return "\n".join(lines) + "\n"
 
 
-def report_text(answer, columns):
+def bar_cells(ppm):
+    return max(1, 40 * ppm // 1_000_000) if ppm else 0
+
+
+def report_text(job, answer, columns):
     lines = ["number place count actual marks deferred simplified", " ".join(map(str, answer))]
     if answer[0]:
         return "\n".join(lines) + "\n"
-    lines.append("region rule kind colour ppm cells")
-    for region, rule, kind, colour, ppm in zip(*columns[:5]):
+    lines.append("region rule kind colour ppm cells shape")
+    for region, rule, kind, colour, ppm, shape in zip(*columns[: len(MARKS)]):
         painted = "-" if kind == 2 else f"{colour:06x}"
-        bar = f"{ppm} {40 * ppm // 1_000_000}" if kind in (3, 4) else "- -"
-        lines.append(f"{region} {rule} {kind} {painted} {bar}")
+        bar = f"{ppm} {bar_cells(ppm)}" if kind in (3, 4) else "- -"
+        shaped = shape if job["rules"][rule]["kind"] in (SCALE2, SCALE3, BAR) else "-"
+        lines.append(f"{region} {rule} {kind} {painted} {bar} {shaped}")
     lines.append("region barrule ppm")
-    lines += [f"{region} {rule - 1} {ppm}" for region, (rule, ppm) in enumerate(zip(columns[5], columns[6])) if rule]
+    bars = zip(columns[BAR_RULES], columns[BAR_PPMS])
+    lines += [f"{region} {rule - 1} {ppm}" for region, (rule, ppm) in enumerate(bars) if rule]
     return "\n".join(lines) + "\n"
 
 
@@ -79,11 +86,11 @@ def write_texts(folder, found):
     written = 0
     for index, (_, job, runs) in enumerate(found):
         for limit in sorted({run[0] for run in runs} | {TOP}):
-            answer, columns = resolve(job, limit, [1024] * 8)
+            answer, columns = resolve(job, limit, [1024] * len(COLUMNS))
             text = job_text(job, limit) if answer[0] in (0, 7, 8, 9) else ""
             if not 0 < len(text) <= 65_536:
                 continue
-            for kind, content in (("job", text), ("report", report_text(answer, columns))):
+            for kind, content in (("job", text), ("report", report_text(job, answer, columns))):
                 with open(os.path.join(folder, f"{index + 1}-{limit}.{kind}"), "w", newline="\n") as file:
                     file.write(content)
             written += 1

@@ -27,6 +27,7 @@ fn keep_columns(
     markkinds: &mut [u32],
     colours: &mut [u32],
     ppms: &mut [u32],
+    shapes: &mut [u32],
     barrules: &mut [u32],
     barppms: &mut [u32],
 )
@@ -35,6 +36,7 @@ fn keep_columns(
     ensures { λ _. ⌜ now (markkinds .exit) ≡ keptIf keep (now (markkinds .entry)) ⌝ }
     ensures { λ _. ⌜ now (colours .exit) ≡ keptIf keep (now (colours .entry)) ⌝ }
     ensures { λ _. ⌜ now (ppms .exit) ≡ keptIf keep (now (ppms .entry)) ⌝ }
+    ensures { λ _. ⌜ now (shapes .exit) ≡ keptIf keep (now (shapes .entry)) ⌝ }
     ensures { λ _. ⌜ now (barrules .exit) ≡ keptIf keep (now (barrules .entry)) ⌝ }
     ensures { λ _. ⌜ now (barppms .exit) ≡ keptIf keep (now (barppms .entry)) ⌝ }
 {
@@ -43,6 +45,7 @@ fn keep_columns(
     keep_column(markkinds, keep);
     keep_column(colours, keep);
     keep_column(ppms, keep);
+    keep_column(shapes, keep);
     keep_column(barrules, keep);
     keep_column(barppms, keep);
 }
@@ -54,10 +57,20 @@ fn lesser(a: usize, b: usize) -> usize
 }
 
 // The space for marks: the length of the shortest mark column.
-fn shortest(regions: usize, rules: usize, kinds: usize, colours: usize, ppms: usize) -> usize
-    ensures { λ r. ⌜ r ≡ shortestOf regions rules kinds colours ppms ⌝ }
+fn shortest(
+    regions: usize,
+    rules: usize,
+    kinds: usize,
+    colours: usize,
+    ppms: usize,
+    shapes: usize,
+) -> usize
+    ensures { λ r. ⌜ r ≡ shortestOf regions rules kinds colours ppms shapes ⌝ }
 {
-    lesser(regions, lesser(rules, lesser(kinds, lesser(colours, ppms))))
+    lesser(
+        regions,
+        lesser(rules, lesser(kinds, lesser(colours, lesser(ppms, shapes)))),
+    )
 }
 
 // Zeros from end to end in the mark and bar columns.
@@ -67,6 +80,7 @@ pub(crate) fn clear_columns(
     markkinds: &mut [u32],
     colours: &mut [u32],
     ppms: &mut [u32],
+    shapes: &mut [u32],
     barrules: &mut [u32],
     barppms: &mut [u32],
 )
@@ -75,6 +89,7 @@ pub(crate) fn clear_columns(
     ensures { λ _. ⌜ now (markkinds .exit) ≡ replicate (length (now (markkinds .entry))) 0 ⌝ }
     ensures { λ _. ⌜ now (colours .exit) ≡ replicate (length (now (colours .entry))) 0 ⌝ }
     ensures { λ _. ⌜ now (ppms .exit) ≡ replicate (length (now (ppms .entry))) 0 ⌝ }
+    ensures { λ _. ⌜ now (shapes .exit) ≡ replicate (length (now (shapes .entry))) 0 ⌝ }
     ensures { λ _. ⌜ now (barrules .exit) ≡ replicate (length (now (barrules .entry))) 0 ⌝ }
     ensures { λ _. ⌜ now (barppms .exit) ≡ replicate (length (now (barppms .entry))) 0 ⌝ }
 {
@@ -85,6 +100,7 @@ pub(crate) fn clear_columns(
         markkinds,
         colours,
         ppms,
+        shapes,
         barrules,
         barppms,
     );
@@ -98,25 +114,28 @@ pub(crate) fn settle_columns(
     markkinds: &mut [u32],
     colours: &mut [u32],
     ppms: &mut [u32],
+    shapes: &mut [u32],
     barrules: &mut [u32],
     barppms: &mut [u32],
 ) -> Answer
     ensures answer { λ r. ⌜ summary r ≡ settledOn (now (regions .entry)) (now (ruleids .entry)) (now (markkinds .entry))
-        (now (colours .entry)) (now (ppms .entry)) ran ⌝ }
+        (now (colours .entry)) (now (ppms .entry)) (now (shapes .entry)) ran ⌝ }
     ensures { λ _. ⌜ now (regions .exit) ≡ keptIf (isAnswered (settledOn (now (regions .entry)) (now (ruleids .entry)) (now (markkinds .entry))
-        (now (colours .entry)) (now (ppms .entry)) ran)) (now (regions .entry)) ⌝ }
+        (now (colours .entry)) (now (ppms .entry)) (now (shapes .entry)) ran)) (now (regions .entry)) ⌝ }
     ensures { λ _. ⌜ now (ruleids .exit) ≡ keptIf (isAnswered (settledOn (now (regions .entry)) (now (ruleids .entry)) (now (markkinds .entry))
-        (now (colours .entry)) (now (ppms .entry)) ran)) (now (ruleids .entry)) ⌝ }
+        (now (colours .entry)) (now (ppms .entry)) (now (shapes .entry)) ran)) (now (ruleids .entry)) ⌝ }
     ensures { λ _. ⌜ now (markkinds .exit) ≡ keptIf (isAnswered (settledOn (now (regions .entry)) (now (ruleids .entry)) (now (markkinds .entry))
-        (now (colours .entry)) (now (ppms .entry)) ran)) (now (markkinds .entry)) ⌝ }
+        (now (colours .entry)) (now (ppms .entry)) (now (shapes .entry)) ran)) (now (markkinds .entry)) ⌝ }
     ensures { λ _. ⌜ now (colours .exit) ≡ keptIf (isAnswered (settledOn (now (regions .entry)) (now (ruleids .entry)) (now (markkinds .entry))
-        (now (colours .entry)) (now (ppms .entry)) ran)) (now (colours .entry)) ⌝ }
+        (now (colours .entry)) (now (ppms .entry)) (now (shapes .entry)) ran)) (now (colours .entry)) ⌝ }
     ensures { λ _. ⌜ now (ppms .exit) ≡ keptIf (isAnswered (settledOn (now (regions .entry)) (now (ruleids .entry)) (now (markkinds .entry))
-        (now (colours .entry)) (now (ppms .entry)) ran)) (now (ppms .entry)) ⌝ }
+        (now (colours .entry)) (now (ppms .entry)) (now (shapes .entry)) ran)) (now (ppms .entry)) ⌝ }
+    ensures { λ _. ⌜ now (shapes .exit) ≡ keptIf (isAnswered (settledOn (now (regions .entry)) (now (ruleids .entry)) (now (markkinds .entry))
+        (now (colours .entry)) (now (ppms .entry)) (now (shapes .entry)) ran)) (now (shapes .entry)) ⌝ }
     ensures { λ _. ⌜ now (barrules .exit) ≡ keptIf (isAnswered (settledOn (now (regions .entry)) (now (ruleids .entry)) (now (markkinds .entry))
-        (now (colours .entry)) (now (ppms .entry)) ran)) (now (barrules .entry)) ⌝ }
+        (now (colours .entry)) (now (ppms .entry)) (now (shapes .entry)) ran)) (now (barrules .entry)) ⌝ }
     ensures { λ _. ⌜ now (barppms .exit) ≡ keptIf (isAnswered (settledOn (now (regions .entry)) (now (ruleids .entry)) (now (markkinds .entry))
-        (now (colours .entry)) (now (ppms .entry)) ran)) (now (barppms .entry)) ⌝ }
+        (now (colours .entry)) (now (ppms .entry)) (now (shapes .entry)) ran)) (now (barppms .entry)) ⌝ }
 {
     let space = shortest(
         regions.len(),
@@ -124,6 +143,7 @@ pub(crate) fn settle_columns(
         markkinds.len(),
         colours.len(),
         ppms.len(),
+        shapes.len(),
     );
     let settled = settle(ran, space);
     keep_columns(
@@ -133,6 +153,7 @@ pub(crate) fn settle_columns(
         markkinds,
         colours,
         ppms,
+        shapes,
         barrules,
         barppms,
     );

@@ -11,6 +11,7 @@ mod picked;
 mod planned;
 mod rules;
 mod scales;
+mod shapes;
 
 use crate::columns::clear_columns;
 use crate::columns::settle_columns;
@@ -65,6 +66,7 @@ pub fn resolve_conditional_paints(
     markkinds: &mut [u32],
     colours: &mut [u32],
     ppms: &mut [u32],
+    shapes: &mut [u32],
     barrules: &mut [u32],
     barppms: &mut [u32],
     scratch: &mut [f64],
@@ -74,15 +76,15 @@ pub fn resolve_conditional_paints(
         («region_cols» .entry))
         (now (pool .entry)) name rules start)
         limit (lengthsOf (lent (now (regions .entry)) (now (ruleids .entry)) (now (markkinds .entry)) (now (colours .entry))
-        (now (ppms .entry)) (now (barrules .entry)) (now (barppms .entry)) (now (scratch .entry)))) .summary ⌝ }
+        (now (ppms .entry)) (now (shapes .entry)) (now (barrules .entry)) (now (barppms .entry)) (now (scratch .entry)))) .summary ⌝ }
     ensures columns { λ _. ⌜ lent (now (regions .exit)) (now (ruleids .exit)) (now (markkinds .exit)) (now (colours .exit))
-        (now (ppms .exit)) (now (barrules .exit)) (now (barppms .exit)) (now (scratch .exit))
+        (now (ppms .exit)) (now (shapes .exit)) (now (barrules .exit)) (now (barppms .exit)) (now (scratch .exit))
         ≡ columnsOf (jobOf (cellColumns (now (rows .entry)) (now (cols .entry)) (now (kinds .entry))
         (now (wraps .entry)) (now (nums .entry)) (now (ats .entry)) (now (lens .entry))) (now («region_rows» .entry)) (now
         («region_cols» .entry))
         (now (pool .entry)) name rules start)
         limit (lengthsOf (lent (now (regions .entry)) (now (ruleids .entry)) (now (markkinds .entry)) (now (colours .entry))
-        (now (ppms .entry)) (now (barrules .entry)) (now (barppms .entry)) (now (scratch .entry)))) ⌝ }
+        (now (ppms .entry)) (now (shapes .entry)) (now (barrules .entry)) (now (barppms .entry)) (now (scratch .entry)))) ⌝ }
 {
     clear_columns(
         regions,
@@ -90,6 +92,7 @@ pub fn resolve_conditional_paints(
         markkinds,
         colours,
         ppms,
+        shapes,
         barrules,
         barppms,
     );
@@ -135,6 +138,7 @@ pub fn resolve_conditional_paints(
         markkinds,
         colours,
         ppms,
+        shapes,
         barrules,
         barppms,
         scratch,
@@ -146,6 +150,7 @@ pub fn resolve_conditional_paints(
         markkinds,
         colours,
         ppms,
+        shapes,
         barrules,
         barppms,
     )

@@ -1,6 +1,7 @@
 // What a rule leaves in the columns, by the regions that it paints: its marks, each column by itself, its bars and its stops.
 use crate::scales::put_scale2;
 use crate::scales::put_scale3;
+use crate::shapes::put_shapes;
 use model::Test;
 use ratio::normalized_ppm;
 use ratio::packed;
@@ -41,7 +42,7 @@ fn put_regions(hits: &[u16], n: usize, column: &mut [u32])
 }
 
 // One value for all marks.
-fn put_same(value: u32, count: usize, n: usize, column: &mut [u32])
+pub(crate) fn put_same(value: u32, count: usize, n: usize, column: &mut [u32])
     ensures { λ _. ⌜ now (column .exit) ≡ sets (now (column .entry)) n (replicate count value) ⌝ }
 {
     let end = space_for(count, n, column.len());
@@ -180,10 +181,13 @@ pub(crate) fn put_marks(
     kinds: &mut [u32],
     colours: &mut [u32],
     ppms: &mut [u32],
+    shapes: &mut [u32],
 )
     requires { ⌜ ((k : ℕ) → k < length (now hits) → getD (now hits) k 0 < length (now values)) ⌝ }
     ensures { λ _. ⌜ markColumns (now (regions .exit)) (now (rules .exit)) (now (kinds .exit)) (now (colours .exit)) (now (ppms .exit))
-        ≡ putMarks (markColumns (now (regions .entry)) (now (rules .entry)) (now (kinds .entry)) (now (colours .entry)) (now (ppms .entry)))
+        (now (shapes .exit))
+        ≡ putMarks (markColumns (now (regions .entry)) (now (rules .entry)) (now (kinds .entry)) (now (colours .entry)) (now (ppms .entry))
+        (now (shapes .entry)))
         n (map (hitMark test imported (now (values .entry)) rule) (now (hits .entry))) ⌝ }
 {
     put_regions(hits, n, regions);
@@ -191,6 +195,7 @@ pub(crate) fn put_marks(
     put_same(kind_by(test, imported), hits.len(), n, kinds);
     put_colours(test, imported, values, hits, n, colours);
     put_ppms(test, values, hits, n, ppms);
+    put_shapes(test, values, hits, n, shapes);
 }
 
 // ---- bars and stops

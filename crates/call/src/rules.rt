@@ -346,6 +346,7 @@ fn turn(
     markkinds: &mut [u32],
     colours: &mut [u32],
     ppms: &mut [u32],
+    shapes: &mut [u32],
     barrules: &mut [u32],
     barppms: &mut [u32],
     scratch: &mut [f64],
@@ -363,11 +364,11 @@ fn turn(
         → Tabled (columns (now (rows .entry)) (now (cols .entry)) kinds wraps nums ats lens) (now (pool .entry)) (rule .kind)
         (now («region_rows» .entry)) (now («region_cols» .entry)) (now (places .entry)) (now (floats .entry)) (now (values .entry))
         (now (codes .entry)) → stateOf r (now (flags .exit)) (markColumns (now (regions .exit)) (now (ruleids .exit))
-        (now (markkinds .exit)) (now (colours .exit)) (now (ppms .exit))) (barColumns (now (barrules .exit)) (now (barppms .exit)))
+        (now (markkinds .exit)) (now (colours .exit)) (now (ppms .exit)) (now (shapes .exit))) (barColumns (now (barrules .exit)) (now (barppms .exit)))
         ≡ turn (indexed index rule) (sayIn (sheetIn (columns (now (rows .entry)) (now (cols .entry)) kinds wraps nums ats lens)
         (now («region_rows» .entry)) (now («region_cols» .entry)) (now (pool .entry)) sheet) limit (now («region_rows» .entry))
         (now («region_cols» .entry)) rule (ran .charged) (now (flags .entry))) (stateOf ran (now (flags .entry)) (markColumns
-        (now (regions .entry)) (now (ruleids .entry)) (now (markkinds .entry)) (now (colours .entry)) (now (ppms .entry)))
+        (now (regions .entry)) (now (ruleids .entry)) (now (markkinds .entry)) (now (colours .entry)) (now (ppms .entry)) (now (shapes .entry)))
         (barColumns (now (barrules .entry)) (now (barppms .entry))))) ⌝ }
     ensures flags { λ _. ⌜ (rule .stop ≡ false → now (flags .exit) ≡ now (flags .entry)) ⌝ }
     ensures few { λ r. ⌜ (r .marks ≤ ran .marks + 1024) × (r .deferred ≤ ran .deferred + 1) × (r .simplified ≤ ran .simplified + 1) ⌝ }
@@ -410,6 +411,7 @@ fn turn(
         markkinds,
         colours,
         ppms,
+        shapes,
     );
     stop_regions(rule.stop, painted, flags);
     draw_bars(test, index, values, painted, barrules, barppms);
@@ -479,6 +481,7 @@ fn run_rules(
     markkinds: &mut [u32],
     colours: &mut [u32],
     ppms: &mut [u32],
+    shapes: &mut [u32],
     barrules: &mut [u32],
     barppms: &mut [u32],
     scratch: &mut [f64],
@@ -494,11 +497,11 @@ fn run_rules(
         → ((i : ℕ) (d : Rule) → i < count → Tabled (columns (now (rows .entry)) (now (cols .entry)) kinds wraps nums ats lens)
         (now (pool .entry)) (getD (rules .records) i d .kind) (now («region_rows» .entry)) (now («region_cols» .entry))
         (now (places .entry)) (now (floats .entry)) (now (values .entry)) (now (codes .entry)))
-        → left r (markColumns (now (regions .exit)) (now (ruleids .exit)) (now (markkinds .exit)) (now (colours .exit)) (now (ppms .exit)))
+        → left r (markColumns (now (regions .exit)) (now (ruleids .exit)) (now (markkinds .exit)) (now (colours .exit)) (now (ppms .exit)) (now (shapes .exit)))
         (barColumns (now (barrules .exit)) (now (barppms .exit))) ≡ leftBy (runIn (sheetIn (columns (now (rows .entry)) (now (cols .entry))
         kinds wraps nums ats lens) (now («region_rows» .entry)) (now («region_cols» .entry)) (now (pool .entry)) sheet) limit
         (now («region_rows» .entry)) (now («region_cols» .entry)) rules start (markColumns (now (regions .entry)) (now (ruleids .entry))
-        (now (markkinds .entry)) (now (colours .entry)) (now (ppms .entry))) (barColumns (now (barrules .entry))
+        (now (markkinds .entry)) (now (colours .entry)) (now (ppms .entry)) (now (shapes .entry))) (barColumns (now (barrules .entry))
         (now (barppms .entry))))) ⌝ }
 {
     let mut firsts = [0.0; 1024];
@@ -542,6 +545,7 @@ fn run_rules(
             markkinds,
             colours,
             ppms,
+            shapes,
             barrules,
             barppms,
             scratch,
@@ -576,6 +580,7 @@ pub(crate) fn run(
     markkinds: &mut [u32],
     colours: &mut [u32],
     ppms: &mut [u32],
+    shapes: &mut [u32],
     barrules: &mut [u32],
     barppms: &mut [u32],
     scratch: &mut [f64],
@@ -585,14 +590,14 @@ pub(crate) fn run(
     requires { ⌜ (firstFall (now «region_rows») (now «region_cols») ≡ none) × (length (now «region_rows») ≤ 1024)
         × (length (now «region_rows») ≤ length (now «region_cols»)) ⌝ }
     ensures run { λ r. ⌜ left r (markColumns (now (regions .exit)) (now (ruleids .exit)) (now (markkinds .exit))
-        (now (colours .exit)) (now (ppms .exit)))
+        (now (colours .exit)) (now (ppms .exit)) (now (shapes .exit)))
         (barColumns (now (barrules .exit)) (now (barppms .exit))) ≡ leftBy (runIn (sheetIn (columns (now (rows .entry)) (now
         (cols .entry)) (now (kinds .entry)) (now (wraps .entry))
         (now (nums .entry)) (now (ats .entry)) (now (lens .entry))) (now («region_rows» .entry)) (now («region_cols» .entry))
         (now (pool .entry)) sheet)
         limit (now («region_rows» .entry)) (now («region_cols» .entry)) rules start
         (markColumns (now (regions .entry)) (now (ruleids .entry)) (now (markkinds .entry))
-        (now (colours .entry)) (now (ppms .entry))) (barColumns (now (barrules .entry)) (now (barppms .entry)))) ⌝ }
+        (now (colours .entry)) (now (ppms .entry)) (now (shapes .entry))) (barColumns (now (barrules .entry)) (now (barppms .entry)))) ⌝ }
     ensures scratch { λ _. ⌜ now (scratch .exit) ≡ replicate (length (now (scratch .entry))) zeroF ⌝ }
 {
     let outline = order::outline(rules);
@@ -628,6 +633,7 @@ pub(crate) fn run(
         markkinds,
         colours,
         ppms,
+        shapes,
         barrules,
         barppms,
         scratch,

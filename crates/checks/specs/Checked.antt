@@ -50,7 +50,7 @@ jobOf cells regionRows regionCols pool name rules start =
 -- the lengths that check 6 looks at; those of the mark columns have no part in it
 abbrev pub spaceOf : ℕ → ℕ → ℕ → Lengths
 spaceOf barRules barPpms scratch =
-    record { regions = 0; rules = 0; kinds = 0; colours = 0; ppms = 0; barRules = barRules; barPpms = barPpms; scratch = scratch }
+    record { regions = 0; rules = 0; kinds = 0; colours = 0; ppms = 0; shapes = 0; barRules = barRules; barPpms = barPpms; scratch = scratch }
 
 -- ---- the checks together
 

@@ -93,6 +93,7 @@ used =
       kinds = replicate 4 7;
       colours = replicate 4 7;
       ppms = replicate 4 7;
+      shapes = replicate 4 7;
       barRules = replicate 3 7;
       barPpms = replicate 3 7;
       scratch = replicate 3 zeroF;
@@ -111,6 +112,7 @@ worked-report a after s c =
       kinds = ap (λ (x : Columns). x .kinds) c;
       colours = ap (λ (x : Columns). x .colours) c;
       ppms = ap (λ (x : Columns). x .ppms) c;
+      shapes = ap (λ (x : Columns). x .shapes) c;
     }
 
 noLifetimes : (n : ℕ) → Lfts n
@@ -121,7 +123,7 @@ pub met : Met
 unfolding jobs samples
 met =
     record {
-      somewhere = record { lifetimes = noLifetimes 18; place = λ i. (i, 0); name = λ i. i };
+      somewhere = record { lifetimes = noLifetimes 19; place = λ i. (i, 0); name = λ i. i };
       job = Worked.job;
       limit = 11;
       before = used;

@@ -1,5 +1,6 @@
 pub mod Answers
 pub mod Held
+pub mod ShapesHeld
 pub mod WholeJobsHeld
 pub mod TextsHeld
 pub mod SavingHeld

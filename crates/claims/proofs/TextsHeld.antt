@@ -54,7 +54,7 @@ monotone = raised.monotone
 -- ---- reports and rounding
 
 pub lines-of-reports : LinesOfReports
-lines-of-reports r = record { refusal = reports.refusal-lines r; answer = reports.answer-lines r }
+lines-of-reports rules r = record { refusal = reports.refusal-lines rules r; answer = reports.answer-lines rules r }
 
 pub longest-attained : LongestAttained
 longest-attained =

@@ -7,8 +7,9 @@ use lib.ListN.{length, take, replicate}
 use lib.Seq.{take-append-seam}
 use Rattle.memory.specs.Memory.{page, pageLength}
 use Rattle.memory.proofs.Laws.{text-fits}
+use Rattle.reporttext.specs.Reports.{reportOn}
 use Rattle.whole.proofs.Longest.{whole-longest}
-use Rattle.claims.specs.WholeJobs.{NothingAskedOfTexts, reportOn, Printed, AlwaysWhole, RatioGiven, ChannelGiven}
+use Rattle.claims.specs.WholeJobs.{NothingAskedOfTexts, Printed, AlwaysWhole, RatioGiven, ChannelGiven}
 
 -- ---- the calls
 

@@ -24,21 +24,21 @@ use Rattle.claims.specs.Arguments.{Places, slice, Numbers, _⊗_, _&_}
 -- ---- the arguments of the call, by their names
 
 abbrev pub Where : Type 0
-Where = Places 18
+Where = Places 19
 
 abbrev pub Args : Type 0
 Args =
     Numbers ⊗ Numbers ⊗ Numbers ⊗ Numbers ⊗ Numbers ⊗ Numbers ⊗ Numbers ⊗ Numbers ⊗ Numbers ⊗ Numbers ⊗ Span ⊗ Rules ⊗ ℕ ⊗ ℕ
-    ⊗ Numbers ⊗ Numbers ⊗ Numbers ⊗ Numbers ⊗ Numbers ⊗ Numbers ⊗ Numbers ⊗ RefT (List Float) ⊗ Unit {0}
+    ⊗ Numbers ⊗ Numbers ⊗ Numbers ⊗ Numbers ⊗ Numbers ⊗ Numbers ⊗ Numbers ⊗ Numbers ⊗ RefT (List Float) ⊗ Unit {0}
 
--- a job, a limit, and the eight columns that are lent for writing
+-- a job, a limit, and the nine columns that are lent for writing
 abbrev args : Where → Job → ℕ → Columns → Args
 args w j limit c =
     slice w 0 (j .cells .rows) & slice w 1 (j .cells .cols) & slice w 2 (j .cells .kinds) & slice w 3 (j .cells .wraps)
     & slice w 4 (j .cells .nums) & slice w 5 (j .cells .ats) & slice w 6 (j .cells .lens) & slice w 7 (j .regionRows)
     & slice w 8 (j .regionCols) & slice w 9 (j .pool) & j .name & j .rules & limit & j .start
     & slice w 14 (c .regions) & slice w 15 (c .rules) & slice w 16 (c .kinds) & slice w 17 (c .colours) & slice w 18 (c .ppms)
-    & slice w 19 (c .barRules) & slice w 20 (c .barPpms) & slice w 21 (c .scratch) & tt
+    & slice w 19 (c .shapes) & slice w 20 (c .barRules) & slice w 21 (c .barPpms) & slice w 22 (c .scratch) & tt
 
 -- the call on a job ends with this answer, and leaves this in the columns that held `before`
 abbrev pub Ends : Where → Job → ℕ → Columns → Answer → Columns → Type 0
@@ -52,9 +52,9 @@ IsAnswered a = summary a .number ≡ 0
 
 -- nothing is asked of the caller
 abbrev pub NothingAsked : Type 0
-NothingAsked = (κs : Lfts 18) (a : Args) → call.Pre κs a
+NothingAsked = (κs : Lfts 19) (a : Args) → call.Pre κs a
 
--- the answer and every element of the eight columns are the definition's, whatever the columns held
+-- the answer and every element of the nine columns are the definition's, whatever the columns held
 abbrev pub Determined : Type 0
 Determined = (w : Where) (j : Job) (limit : ℕ) (before after : Columns) (a : Answer) → Ends w j limit before a after
     → (summary a ≡ result j limit (lengthsOf before) .summary) × (after ≡ columnsOf j limit (lengthsOf before))
@@ -86,7 +86,7 @@ pub record Three (j : Job) : Type 0 where
   -- all these answers have count E, M marks, and the same deferred and simplified
   pub alike : (w : Where) (limit : ℕ) (before after : Columns) (a : Answer) → Roomy j (lengthsOf before) → Ends w j limit before a after
       → IsAnswered a → a ≡ Answer.Answered (reached j) (markCount j) (runOf j .deferred) (runOf j .simplified)
-  -- the eight columns hold the M marks in their order and the bars of the run without a limit, and zeros in the rest
+  -- the nine columns hold the M marks in their order and the bars of the run without a limit, and zeros in the rest
   pub columns : (w : Where) (limit : ℕ) (before after : Columns) (a : Answer) → Roomy j (lengthsOf before) → Ends w j limit before a after
       → IsAnswered a → after ≡ written (answered (reached j) (runOf j)) (lengthsOf before)
   -- E - S is at most rules × (regions + cells) and the areas of the duplicate rules whose range is upright and within the grid
@@ -107,6 +107,7 @@ pub record WorkedReport (a : Answer) (after : Columns) : Type 0 where
   pub kinds : after .kinds ≡ 1 ∷ 3 ∷ 3 ∷ 0 ∷ []
   pub colours : after .colours ≡ 0xff0000 ∷ 0x00ff00 ∷ 0x00ff00 ∷ 0 ∷ []
   pub ppms : after .ppms ≡ 0 ∷ 0 ∷ 500_000 ∷ 0 ∷ []
+  pub shapes : after .shapes ≡ 0 ∷ 0 ∷ 0 ∷ 0 ∷ []
 
 -- a job of three cells, three regions and two rules, a limit and lent columns that meet every hypothesis of demand 3; slices can lie
 -- somewhere, there is an ending that the contract of the call allows, and each that it allows is that report

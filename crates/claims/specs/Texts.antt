@@ -11,6 +11,7 @@ use lib.Ieee.{fin, up, down}
 use lib.ListN.{length}
 use types.Run.{OneOf}
 use Rattle.model.specs.declared.Rgb.{Rgb}
+use Rattle.model.specs.declared.Rule.{Rule}
 use Rattle.model.specs.Ratio.{rounded, packed}
 use Rattle.model.specs.Sheet.{valueOf}
 use Rattle.model.specs.Answer.{Result, refusal, refused}
@@ -27,6 +28,7 @@ use Rattle.jobtext.specs.Said.{valueSaid, Means, jobSaid}
 use Rattle.jobtext.specs.Decided.{decided}
 use Rattle.reporttext.specs.Report as Report
 use Rattle.reporttext.specs.Report.{reportOf, barCount}
+use Rattle.reporttext.specs.Reports.{reportOn}
 use Rattle.reporttext.specs.Longest.{longest}
 
 -- ---- what a text is read as: one of four, and each exactly where it says
@@ -89,18 +91,18 @@ Monotone = (j : JobText) (limit : ℕ) → decided (ReadResult.is j) .summary .n
 -- ---- reports
 
 -- 2 lines for a refusal; 4 for an answer, and one for each mark and each bar
-pub record Lines (r : Result) : Type 0 where
-  pub refusal : (r .summary .number ≡ 0 → ⊥) → lineFeeds (reportOf r) ≡ 2
-  pub answer : r .summary .number ≡ 0 → lineFeeds (reportOf r) ≡ 4 + length (r .marks) + barCount (r .states)
+pub record Lines (rules : List Rule) (r : Result) : Type 0 where
+  pub refusal : (r .summary .number ≡ 0 → ⊥) → lineFeeds (reportOf rules r) ≡ 2
+  pub answer : r .summary .number ≡ 0 → lineFeeds (reportOf rules r) ≡ 4 + length (r .marks) + barCount (r .states)
 
 abbrev pub LinesOfReports : Type 0
-LinesOfReports = (r : Result) → Lines r
+LinesOfReports = (rules : List Rule) (r : Result) → Lines rules r
 
 -- a job text whose report has the most bytes that any report can have
 pub record LongestAttained : Type 0 where
   pub text : List ℕ
   pub fits : length text ≤ maxText
-  pub attained : length (reportOf (decided (read text))) ≡ longest
+  pub attained : length (reportOn text) ≡ longest
 
 -- numbers and colours are written as in a job text
 abbrev pub NumberAsInJobs : Type 0

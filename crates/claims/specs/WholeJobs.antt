@@ -8,10 +8,8 @@ use contract.Lifetimes.{Lfts}
 use lib.ListN.{length, take}
 use lib.Ieee.{Float}
 use Rattle.model.specs.Ratio.{ratio, channel}
-use Rattle.jobtext.specs.Read.{read}
-use Rattle.jobtext.specs.Decided.{decided}
 use Rattle.memory.specs.Memory.{page, pageLength}
-use Rattle.reporttext.specs.Report.{reportOf}
+use Rattle.reporttext.specs.Reports.{reportOn}
 use Rattle.reporttext.specs.Longest.{longest}
 use Rattle.exports.proofs.wavendiru_whole_job.Reads as wholeJob
 use Rattle.exports.proofs.wavendiru_ratio.Reads as ratioCall
@@ -38,16 +36,12 @@ Prints l text before r after = wholeJob.Post (l .lifetimes) (args l text before)
 abbrev pub NothingAskedOfTexts : Type 0
 NothingAskedOfTexts = (κs : Lfts 2) (a : TextAndReport) → wholeJob.Pre κs a
 
--- print (decide (read text))
-abbrev pub reportOn : List ℕ → List ℕ
-reportOn text = reportOf (decided (read text))
-
 -- the report and zeros after it; or, where it is longer than the lent bytes, 0 and zeros alone
 abbrev pub Printed : Type 0
 Printed = (l : Lent) (text before after : List ℕ) (r : ℕ) → Prints l text before r after
     → (r ≡ pageLength (length before) (reportOn text)) × (after ≡ page (length before) (reportOn text))
 
--- in 42,979 bytes every report is whole
+-- in 45,033 bytes every report is whole
 abbrev pub AlwaysWhole : Type 0
 AlwaysWhole = (l : Lent) (text before after : List ℕ) (r : ℕ) → longest ≤ length before → Prints l text before r after
     → (r ≡ length (reportOn text)) × (take r after ≡ reportOn text)

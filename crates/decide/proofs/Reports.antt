@@ -9,19 +9,20 @@ use lib.ListN.{length}
 use borrow.Author.Tests.{le-leb}
 use Rattle.model.specs.declared.Answer.{Answer}
 use Rattle.model.specs.Answer.{Summary, Result, summary, refusal, answer, answered}
-use Rattle.model.specs.Job.{Job, Lengths, markSpace, runOf, result}
+use Rattle.model.specs.Job.{Job, Lengths, markSpace, rulesOf, runOf, result}
 use Rattle.model.specs.Columns.{Columns, columnsOf}
 use Rattle.laws.specs.Demands.{lengthsOf}
 use Rattle.laws.proofs.Results.{WholeJob, Refused, result-is}
 use Rattle.laws.proofs.DemandOne.{refused-unanswered, demand-one}
 use Rattle.jobtext.specs.Decided.{wholeSpace}
 use Rattle.reporttext.specs.Report.{reportOf}
+use Rattle.reporttext.specs.Reports.{jobReport}
 use Rattle.reporttext.specs.Shown.{printed, resultIn, holdsMarks}
 use Rattle.reporttext.proofs.Shown.{job-report}
 
 -- the columns that a report shows
 abbrev shown : Columns → Columns
-shown c = printed (c .regions) (c .rules) (c .kinds) (c .colours) (c .ppms) (c .barRules) (c .barPpms)
+shown c = printed (c .regions) (c .rules) (c .kinds) (c .colours) (c .ppms) (c .shapes) (c .barRules) (c .barPpms)
 
 -- a result does not look at the scratch
 result-shown : (s : Summary) (c : Columns) → resultIn s (shown c) ≡ resultIn s c
@@ -31,13 +32,13 @@ result-shown s c = refl
 -- with space for 1,024, what is printed from a job's answer and columns is the report of its result
 module _ (j : Job) (limit : ℕ) (l : Lengths) (a : Answer) (c : Columns) where
   pub report-printed : l ≡ wholeSpace → summary a ≡ result j limit l .summary → c ≡ columnsOf j limit l
-      → reportOf (resultIn (summary a) (shown c)) ≡ reportOf (result j limit wholeSpace)
+      → reportOf (rulesOf j) (resultIn (summary a) (shown c)) ≡ jobReport j limit wholeSpace
   report-printed roomy answer columns =
-      ap reportOf (result-shown (summary a) c)
-      ∙ ap (λ (s : Summary). reportOf (resultIn s c)) answer
-      ∙ ap (λ (x : Columns). reportOf (resultIn (result j limit l .summary) x)) columns
+      ap (reportOf (rulesOf j)) (result-shown (summary a) c)
+      ∙ ap (λ (s : Summary). reportOf (rulesOf j) (resultIn s c)) answer
+      ∙ ap (λ (x : Columns). reportOf (rulesOf j) (resultIn (result j limit l .summary) x)) columns
       ∙ job-report j limit l
-      ∙ ap (λ (x : Lengths). reportOf (result j limit x)) roomy
+      ∙ ap (λ (x : Lengths). jobReport j limit x) roomy
 
 -- ---- the marks
 

@@ -3,10 +3,9 @@ use model::Rules;
 use model::Span;
 ghost use mathlib.Core.Path.{_≡_};
 ghost use lib.ListN.{length};
-ghost use Rattle.model.specs.Job.{result};
 ghost use Rattle.checks.specs.Checked.{cellColumns, jobOf};
 ghost use Rattle.memory.specs.Memory.{page, pageLength};
-ghost use Rattle.reporttext.specs.Report.{reportOf};
+ghost use Rattle.reporttext.specs.Reports.{jobReport};
 ghost use Rattle.jobtext.specs.Decided.{wholeSpace};
 
 // The report of a job: its length, 0 where it is longer than the lent bytes.
@@ -27,19 +26,20 @@ pub fn decide_job(
     start: u64,
     report: &mut [u8],
 ) -> usize
-    ensures length { λ r. ⌜ r ≡ pageLength (length (now (report .entry))) (reportOf (result (jobOf (cellColumns (now (rows .entry))
+    ensures length { λ r. ⌜ r ≡ pageLength (length (now (report .entry))) (jobReport (jobOf (cellColumns (now (rows .entry))
         (now (cols .entry)) (now (kinds .entry)) (now (wraps .entry)) (now (nums .entry)) (now (ats .entry)) (now (lens .entry)))
-        (now («region_rows» .entry)) (now («region_cols» .entry)) (now (pool .entry)) name rules start) limit wholeSpace)) ⌝ }
-    ensures bytes { λ _. ⌜ now (report .exit) ≡ page (length (now (report .entry))) (reportOf (result (jobOf (cellColumns
+        (now («region_rows» .entry)) (now («region_cols» .entry)) (now (pool .entry)) name rules start) limit wholeSpace) ⌝ }
+    ensures bytes { λ _. ⌜ now (report .exit) ≡ page (length (now (report .entry))) (jobReport (jobOf (cellColumns
         (now (rows .entry)) (now (cols .entry)) (now (kinds .entry)) (now (wraps .entry)) (now (nums .entry)) (now (ats .entry))
         (now (lens .entry))) (now («region_rows» .entry)) (now («region_cols» .entry)) (now (pool .entry)) name rules start) limit
-        wholeSpace)) ⌝ }
+        wholeSpace) ⌝ }
 {
     let mut regions = [0u32; 1024];
     let mut ruleids = [0u32; 1024];
     let mut markkinds = [0u32; 1024];
     let mut colours = [0u32; 1024];
     let mut ppms = [0u32; 1024];
+    let mut shapes = [0u32; 1024];
     let mut barrules = [0u32; 1024];
     let mut barppms = [0u32; 1024];
     let mut scratch = [0.0; 1024];
@@ -63,17 +63,20 @@ pub fn decide_job(
         &mut markkinds,
         &mut colours,
         &mut ppms,
+        &mut shapes,
         &mut barrules,
         &mut barppms,
         &mut scratch,
     );
     report::write_report(
         answer,
+        rules,
         &regions,
         &ruleids,
         &markkinds,
         &colours,
         &ppms,
+        &shapes,
         &barrules,
         &barppms,
         report,

@@ -8,6 +8,7 @@ use lib.Ieee.{Float, nan, lt, le, eq}
 use Rattle.model.specs.declared.ConditionalComparison.{ConditionalComparison}
 use Rattle.model.specs.declared.ConditionalOperand.{ConditionalOperand}
 use Rattle.model.specs.declared.DvOp.{DvOp}
+use Rattle.model.specs.declared.Normalized.{Normalized}
 use Rattle.model.specs.declared.Outcome.{Outcome}
 use Rattle.model.specs.declared.Reading.{Reading}
 use Rattle.model.specs.declared.Rgb.{Rgb}
@@ -15,25 +16,41 @@ use Rattle.model.specs.declared.Test.{Test}
 use Rattle.model.specs.Comparison.{usesSecond, between, notBetween, compareConditional, compare}
 use Rattle.model.specs.Readings.{finite}
 use Rattle.model.specs.References.{literal}
-use Rattle.model.specs.Rule.{filled, filledIf, onValue, onOperand, onSecond}
+use Rattle.model.specs.Ratio.{normalized}
+use Rattle.model.specs.Rule.{filled, scaled, filledIf, onValue, onOperand, onSecond}
 use Rattle.laws.proofs.Covered.{and-true}
 use Rattle.hits.specs.declared.Interval.{Interval}
 use Rattle.hits.specs.declared.Wanted.{Wanted}
-use Rattle.hits.specs.Verdict.{cellIs, duplicateValues, expression}
+use Rattle.hits.specs.Verdict.{cellIs, byNumber, duplicateValues, expression}
 use Rattle.hits.specs.Said.{readingOf, byteOf, interval, meets, sayInterval, compared, sayCompared, sayBetween, sayCounted, isBetween}
 use Rattle.hits.specs.Hits.{isLiteral, literalOf, byLiterals}
 use Rattle.hits.proofs.Numbers.{IsNumber, not-number, lt-nan, nan-lt, nan-le, nan-eq}
 
 -- ---- a byte
 
-pub filled-byte : (imported : Bool) (fill : Rgb) → byteOf (filled imported fill) ≡ 1
+pub filled-byte : (imported : Bool) (shape : ℕ) (fill : Rgb) → byteOf (filled imported shape fill) ≡ 1
 unfolding byteOf filled
-filled-byte true fill = refl
-filled-byte false fill = refl
+filled-byte true shape fill = refl
+filled-byte false shape fill = refl
+
+pub scaled-byte : (imported : Bool) (more : ℕ) (start end : Rgb) (n : Normalized) → byteOf (scaled imported more start end n) ≡ 1
+unfolding scaled
+scaled-byte imported more start end n = filled-byte imported _ _
+
+-- whichever half is used
+pub halves-byte : (first middle last : Rgb) (low mid high : Float) (imported : Bool) (x : Float)
+    → byteOf (byNumber (Test.ColorScale3 first middle last low mid high) imported x) ≡ 1
+unfolding byNumber
+halves-byte first middle last low mid high imported x = by (le x mid)
+  where
+    by : (lower : Bool) → byteOf (cond lower (scaled imported 0 first middle (normalized x low mid))
+        (scaled imported 3 middle last (normalized x mid high))) ≡ 1
+    by true = scaled-byte imported 0 first middle _
+    by false = scaled-byte imported 3 middle last _
 
 pub painted-byte : (met imported : Bool) (fill : Rgb) → byteOf (filledIf met imported fill) ≡ cond met 1 0
 unfolding byteOf filledIf
-painted-byte true imported fill = filled-byte imported fill
+painted-byte true imported fill = filled-byte imported 0 fill
 painted-byte false imported fill = refl
 
 -- a test that is met as another is

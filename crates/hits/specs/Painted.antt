@@ -1,12 +1,13 @@
--- The mark that a test gives to a region which it paints, by the number of the region's cell, field by field (document 01, 'Rules').
+-- The mark that a test gives to a region which it paints, by the number of the region's cell, field by field (document 01, 'Rules';
+-- document 02 for the shape).
 -- Assumes nothing.
-use Prim.Native.Nat.{ℕ}
+use Prim.Native.Nat.{ℕ, _+_}
 use mathlib.Core.Bool.{Bool, cond}
 use lib.Ieee.{Float, le}
 use Rattle.model.specs.declared.Paint.{Paint}
 use Rattle.model.specs.declared.Rgb.{Rgb}
 use Rattle.model.specs.declared.Test.{Test}
-use Rattle.model.specs.Ratio.{ratio, interpolateRgb, packed}
+use Rattle.model.specs.Ratio.{normalized, ratio, shapeNumber, interpolateRgb, packed}
 
 -- 1 fill, 2 imported style, 3 bar, 4 bar with imported style
 unfoldable pub kindBy : Test → Bool → ℕ
@@ -53,5 +54,18 @@ ppmBy (Test.AboveAverage below bound fill) x = 0
 ppmBy (Test.DuplicateValues unique fill) x = 0
 ppmBy (Test.Expression op left right fill) x = 0
 
+-- 3 more in the upper half of a scale with three colours
+unfoldable pub shapeBy : Test → Float → ℕ
+shapeBy (Test.CellIs op first second fill) x = 0
+shapeBy (Test.ColorScale2 min max low high) x = shapeNumber (normalized x low high .shape)
+shapeBy (Test.ColorScale3 min mid max low middle high) x =
+    cond (le x middle) (shapeNumber (normalized x low middle .shape)) (3 + shapeNumber (normalized x middle high .shape))
+shapeBy (Test.DataBar color low high) x = shapeNumber (normalized x low high .shape)
+shapeBy (Test.TopBottom bottom bound fill) x = 0
+shapeBy (Test.AboveAverage below bound fill) x = 0
+shapeBy (Test.DuplicateValues unique fill) x = 0
+shapeBy (Test.Expression op left right fill) x = 0
+
 abbrev pub paintBy : Test → Bool → Float → Paint
-paintBy t imported x = record { kind = kindBy t imported; colour = colourBy t imported x; ppm = ppmBy t x }
+paintBy t imported x =
+    record { kind = kindBy t imported; colour = colourBy t imported x; ppm = ppmBy t x; shape = shapeBy t x }

@@ -12,8 +12,8 @@ use Rattle.model.specs.declared.Reading.{Reading}
 use Rattle.model.specs.declared.Rgb.{Rgb}
 use Rattle.model.specs.declared.Test.{Test}
 use Rattle.model.specs.Comparison.{usesSecond, compareConditional, compare}
-use Rattle.model.specs.Ratio.{ratio, interpolateRgb}
-use Rattle.model.specs.Rule.{filled, barred, filledIf, onValue, onOperand, onSecond}
+use Rattle.model.specs.Ratio.{normalized}
+use Rattle.model.specs.Rule.{scaled, barred, filledIf, onValue, onOperand, onSecond}
 
 -- ---- the operands of a test
 
@@ -49,10 +49,10 @@ cellIs op fill imported value first second =
 -- scales, bars, rank and average, by the cell's number; the other tests need more and are not asked here
 unfoldable pub byNumber : Test → Bool → Float → Outcome
 byNumber (Test.CellIs op first second fill) imported x = Outcome.Passed
-byNumber (Test.ColorScale2 min max low high) imported x = filled imported (interpolateRgb min max (ratio x low high))
+byNumber (Test.ColorScale2 min max low high) imported x = scaled imported 0 min max (normalized x low high)
 byNumber (Test.ColorScale3 min mid max low middle high) imported x =
-    filled imported (cond (le x middle) (interpolateRgb min mid (ratio x low middle)) (interpolateRgb mid max (ratio x middle high)))
-byNumber (Test.DataBar color low high) imported x = barred imported color (ratio x low high)
+    cond (le x middle) (scaled imported 0 min mid (normalized x low middle)) (scaled imported 3 mid max (normalized x middle high))
+byNumber (Test.DataBar color low high) imported x = barred imported color (normalized x low high)
 byNumber (Test.TopBottom bottom bound fill) imported x = filledIf (cond bottom (le x bound) (le bound x)) imported fill
 byNumber (Test.AboveAverage below bound fill) imported x = filledIf (cond below (lt x bound) (lt bound x)) imported fill
 byNumber (Test.DuplicateValues unique fill) imported x = Outcome.Passed

@@ -94,8 +94,9 @@ rules = refl
 
 -- ---- whole texts
 
-abbrev mark : ℕ → ℕ → ℕ → ℕ → ℕ → Mark
-mark region rule kind colour ppm = record { region = region; rule = rule; paint = record { kind = kind; colour = colour; ppm = ppm } }
+abbrev mark : ℕ → ℕ → ℕ → ℕ → ℕ → ℕ → Mark
+mark region rule kind colour ppm shape =
+    record { region = region; rule = rule; paint = record { kind = kind; colour = colour; ppm = ppm; shape = shape } }
 
 abbrev state : Bool → ℕ → ℕ → RegionState
 state stopped barRule barPpm = record { stopped = stopped; barRule = barRule; barPpm = barPpm }
@@ -104,7 +105,7 @@ abbrev report : Result
 report =
     record {
       summary = answer 11 3 0 1;
-      marks = mark 2 1 1 0xff0000 0 ∷ mark 0 0 3 0x00ff00 0 ∷ mark 1 0 3 0x00ff00 500_000 ∷ [];
+      marks = mark 2 1 1 0xff0000 0 0 ∷ mark 0 0 3 0x00ff00 0 0 ∷ mark 1 0 3 0x00ff00 500_000 0 ∷ [];
       states = state false 1 0 ∷ state false 1 500_000 ∷ state true 0 0 ∷ [];
     }
 

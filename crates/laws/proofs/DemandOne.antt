@@ -28,6 +28,7 @@ written-none s l = λ i.
       kinds = column-none (l .kinds) (λ (m : Mark). m .paint .kind) i;
       colours = column-none (l .colours) (λ (m : Mark). m .paint .colour) i;
       ppms = column-none (l .ppms) (λ (m : Mark). m .paint .ppm) i;
+      shapes = column-none (l .shapes) (λ (m : Mark). m .paint .shape) i;
       barRules = column-none (l .barRules) (λ (s : RegionState). s .barRule) i;
       barPpms = column-none (l .barPpms) (λ (s : RegionState). s .barPpm) i;
       scratch = replicate (l .scratch) zeroF;
@@ -45,6 +46,7 @@ written-lengths r l m b p = λ i.
       kinds = column-length (l .kinds) (λ (m : Mark). m .paint .kind) (r .marks) (omega arith) i;
       colours = column-length (l .colours) (λ (m : Mark). m .paint .colour) (r .marks) (omega arith) i;
       ppms = column-length (l .ppms) (λ (m : Mark). m .paint .ppm) (r .marks) (omega arith) i;
+      shapes = column-length (l .shapes) (λ (m : Mark). m .paint .shape) (r .marks) (omega arith) i;
       barRules = column-length (l .barRules) (λ (s : RegionState). s .barRule) (r .states) b i;
       barPpms = column-length (l .barPpms) (λ (s : RegionState). s .barPpm) (r .states) p i;
       scratch = length-replicate (l .scratch) zeroF i;
@@ -105,6 +107,7 @@ module _ (j : Job) (limit : ℕ) (l : Lengths) where
         kinds = length-replicate {A = ℕ} (l .kinds) 0 i;
         colours = length-replicate {A = ℕ} (l .colours) 0 i;
         ppms = length-replicate {A = ℕ} (l .ppms) 0 i;
+        shapes = length-replicate {A = ℕ} (l .shapes) 0 i;
         barRules = length-replicate {A = ℕ} (l .barRules) 0 i;
         barPpms = length-replicate {A = ℕ} (l .barPpms) 0 i;
         scratch = length-replicate (l .scratch) zeroF i;

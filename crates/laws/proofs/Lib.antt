@@ -3,7 +3,11 @@ pub mod FloatOrder
 pub mod Values
 pub mod Rank
 pub mod Ratio
+pub mod Differences
+pub mod Shapes
 pub mod Order
+pub mod ShapesOfRules
+pub mod ShapesOfMarks
 pub mod Split
 pub mod First
 pub mod Each

@@ -13,6 +13,7 @@ use lib.Ieee.Fits.{down-pos}
 use lib.Ieee.Order.{round-mono}
 use lib.Ieee.Scale.{round-same}
 use borrow.Author.Tests.{ltb-false, eqb-true, eqb-false}
+use Rattle.model.proofs.RatioParts.{ratio-is}
 use Rattle.model.specs.Ratio.{zeroF, oneF, millionF, heldToUnit, rounded, quotient, ratio, barCells, heldToByte, channel}
 
 -- ---- ratio
@@ -67,8 +68,8 @@ held-at-most (fin false m e) false false h k =
     rounded-at-most _ (product-at-most m e (omega arith))
 
 pub ratio-at-most : (v a b : Float) → ratio v a b ≤ 1_000_000
-unfolding ratio heldToUnit
-ratio-at-most v a b = flat (le b a)
+unfolding heldToUnit
+ratio-at-most v a b = rw ratio-is (flat (le b a))
   where
     flat : (t : Bool) → cond t 1_000_000 (rounded (mul binary64 (heldToUnit (quotient v a b)) millionF)) ≤ 1_000_000
     flat true = le-refl 1_000_000

@@ -13,6 +13,7 @@ use readings::text::text_at;
 pub(crate) enum Answer {
     Number(u64),
     Float(f64),
+    Ratio { ppm: u32, shape: u32 },
     Place { at: usize, width: usize, op: u64 },
     Reference(A1Reference),
     Text(Span),
@@ -104,6 +105,10 @@ pub(crate) fn put_answer(out: &mut [u8], at: usize, answer: Answer, lent: &[u8])
     match answer {
         Answer::Number(n) => put_number(out, at, n, b'\n'),
         Answer::Float(x) => put_float(out, at, x),
+        Answer::Ratio { ppm, shape } => {
+            let first = put_number(out, at, ppm as u64, b' ');
+            put_number(out, first, shape as u64, b'\n')
+        }
         Answer::Place {
             at: place,
             width,

@@ -6,6 +6,7 @@ use crate::numbers::answer_cell_is;
 use crate::numbers::answer_channel;
 use crate::numbers::answer_expression;
 use crate::numbers::answer_midpoint;
+use crate::numbers::answer_normalized;
 use crate::numbers::answer_ratio;
 use crate::texts::answer_key;
 use crate::texts::answer_number;
@@ -19,6 +20,10 @@ fn answer_numbers(s: &[u8], at: usize) -> Answered {
     let ratio = word(s, at, b"ratio ");
     if ratio.ok {
         return answer_ratio(s, ratio.next);
+    }
+    let normalized = word(s, at, b"normalized ");
+    if normalized.ok {
+        return answer_normalized(s, normalized.next);
     }
     let channel = word(s, at, b"channel ");
     if channel.ok {

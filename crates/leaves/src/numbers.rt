@@ -31,6 +31,25 @@ pub(crate) fn answer_ratio(s: &[u8], at: usize) -> Answered {
     malformed(at)
 }
 
+// The ppm, and the number of the shape.
+pub(crate) fn answer_normalized(s: &[u8], at: usize) -> Answered {
+    let value = float(s, at, b' ');
+    let minimum = float(s, value.next, b' ');
+    let maximum = float(s, minimum.next, b'\n');
+    if value.ok && minimum.ok && maximum.ok {
+        let normalized = ratio::normalized_ratio(value.value, minimum.value, maximum.value);
+        let shape = normalized.shape;
+        return Answered {
+            answer: Answer::Ratio {
+                ppm: normalized.ppm,
+                shape: ratio::shape_number(shape),
+            },
+            next: maximum.next,
+        };
+    }
+    malformed(at)
+}
+
 pub(crate) fn answer_channel(s: &[u8], at: usize) -> Answered {
     let start = decimal(s, at, 255, b' ');
     let end = decimal(s, start.next, 255, b' ');

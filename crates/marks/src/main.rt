@@ -56,7 +56,7 @@ fn main() {
     }
     let length = input.length;
     // the longest report
-    let mut report = [0u8; 42979];
+    let mut report = [0u8; 45033];
     let n = report_on(&text[..length], &mut report);
     let written = io::write_all(STDOUT_FILENO, &report[..n]);
     if !written {

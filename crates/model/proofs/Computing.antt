@@ -30,7 +30,7 @@ unfolding Ieee.ofBits Ieee.toBits Ieee.ofInt Ieee.neg Ieee.add Ieee.sub Ieee.mul
     Comparison.usesSecond Comparison.between Comparison.notBetween Comparison.compareConditional Comparison.compare
     Split.blank Split.dropBlanks Split.trimmed Split.withoutEquals Split.formula Split.begins Split.operatorAt Split.orLater Split.scan
     Split.split Split.behind Split.rightPart
-    Ratio.heldToUnit Ratio.rounded Ratio.quotient Ratio.ratio Ratio.barCells Ratio.heldToByte Ratio.channel Ratio.interpolateRgb
+    Ratio.heldToUnit Ratio.rounded Ratio.quotient Ratio.normalized Ratio.ratio Ratio.shapeNumber Ratio.barCells Ratio.heldToByte Ratio.channel Ratio.interpolateRgb
     Ratio.packed Sorting.insert Sorting.sortBy
     Values.least Values.greatest Values.negative Values.comesBefore Values.sorted Values.valueAt Values.half Values.midpoint
     Values.selected Values.threshold Values.sumFrom Values.dividedBy Values.average
@@ -41,7 +41,7 @@ unfoldable pub jobs : Unit {0}
 unfolding leaves
     Rule.cellsIn Rule.numbers Rule.values Rule.keys Rule.times Rule.each Rule.covered Rule.cellCharges Rule.aheadOf Rule.ahead
     Rule.scale2 Rule.scale3 Rule.bar Rule.rank Rule.against Rule.mean Rule.planOf Rule.plan Rule.isBar Rule.isSimplified
-    Rule.filled Rule.barred Rule.filledIf Rule.onValue Rule.onOperand Rule.onSecond Rule.verdict
+    Rule.hasShape Rule.filled Rule.scaled Rule.barred Rule.filledIf Rule.onValue Rule.onOperand Rule.onSecond Rule.verdict
     Run.outcome Run.outcomes Run.asked Run.isUnresolved Run.marksFrom Run.hasBar Run.painted Run.afterwards Run.allAfterwards
     Run.unmarked Run.tested Run.carriedOut Run.step Run.followedBy Run.runFrom Run.precedenceOf Run.earlier Run.indexedFrom
     Run.ordered Run.run

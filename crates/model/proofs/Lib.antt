@@ -8,3 +8,5 @@ pub mod RefusalsByCharge
 pub mod Traps
 pub mod TrapsOfValues
 pub mod TrapsOfLeaves
+pub mod Shapes
+pub mod RatioParts

@@ -216,7 +216,7 @@ unused-record = refl
 abbrev roomFor : ℕ → ℕ → ℕ → ℕ → Result
 roomFor len barRules barPpms scratch =
     result (jobIn samplePool (span 10 len) (down (1 ∷ 2 ∷ [])) (regions 3) (allOf (rule (rows 3) (CfRule.DataBar green) ∷ [])) 5) 0
-    (record { regions = 0; rules = 0; kinds = 0; colours = 0; ppms = 0; barRules = barRules; barPpms = barPpms; scratch = scratch })
+    (record { regions = 0; rules = 0; kinds = 0; colours = 0; ppms = 0; shapes = 0; barRules = barRules; barPpms = barPpms; scratch = scratch })
 
 -- each column by itself, and ahead of the limit
 short-of-space : roomFor 0 2 3 2 ∷ roomFor 0 3 2 2 ∷ roomFor 0 3 3 1 ∷ [] ≡ replicate 3 (refused (refusal 6 0 5 0))

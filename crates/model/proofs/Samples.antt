@@ -202,6 +202,7 @@ lengths marks bars scratch =
       kinds = marks;
       colours = marks;
       ppms = marks;
+      shapes = marks;
       barRules = bars;
       barPpms = bars;
       scratch = scratch;
@@ -225,7 +226,7 @@ tally j =
 unfoldable pub ofMarks : (Mark → ℕ) → Job → List ℕ
 ofMarks field j = map field (decided j .marks)
 
--- region, rule, kind, colour and ppm of each mark, and the two bar columns
+-- region, rule, kind, colour, ppm and shape of each mark, and the two bar columns
 unfoldable pub markRegions : Job → List ℕ
 markRegions j = ofMarks (λ m. m .region) j
 
@@ -241,6 +242,9 @@ markColours j = ofMarks (λ m. m .paint .colour) j
 unfoldable pub markPpms : Job → List ℕ
 markPpms j = ofMarks (λ m. m .paint .ppm) j
 
+unfoldable pub markShapes : Job → List ℕ
+markShapes j = ofMarks (λ m. m .paint .shape) j
+
 unfoldable pub barRules : Job → List ℕ
 barRules j = map (λ (s : RegionState). s .barRule) (decided j .states)
 
@@ -252,5 +256,5 @@ unfoldable pub samples : Unit {0}
 unfolding whole float largest lowest infinity notANumber span samplePool cell number text bool error downFrom down
     at regionsFrom regions range rows rgb red green blue rule prior stopping imported literal relative absolute equalTo equals
     above duplicates allOf jobIn jobOf lengths ample decided tally ofMarks markRegions markRules markKinds markColours markPpms
-    barRules barPpms
+    markShapes barRules barPpms
 samples = tt

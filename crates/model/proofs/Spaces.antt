@@ -13,7 +13,7 @@ use Rattle.model.proofs.Computing.{jobs}
 use Rattle.model.proofs.Samples.{samples, lengths}
 use Rattle.model.proofs.WorkedJob.{job}
 
--- what the answer says, and what the eight columns hold
+-- what the answer says, and what the nine columns hold
 pub record Ended : Type 0 where
   pub summary : Summary
   pub columns : Columns
@@ -21,15 +21,16 @@ pub record Ended : Type 0 where
 abbrev ended : Lengths → Ended
 ended l = record { summary = result job 11 l .summary; columns = columnsOf job 11 l }
 
--- region, rule, kind, colour and ppm of the marks, the two bar columns, and scratch
-abbrev holding : List ℕ → List ℕ → List ℕ → List ℕ → List ℕ → List ℕ → List ℕ → List Float → Columns
-holding regions rules kinds colours ppms barRules barPpms scratch =
+-- region, rule, kind, colour, ppm and shape of the marks, the two bar columns, and scratch
+abbrev holding : List ℕ → List ℕ → List ℕ → List ℕ → List ℕ → List ℕ → List ℕ → List ℕ → List Float → Columns
+holding regions rules kinds colours ppms shapes barRules barPpms scratch =
     record {
       regions = regions;
       rules = rules;
       kinds = kinds;
       colours = colours;
       ppms = ppms;
+      shapes = shapes;
       barRules = barRules;
       barPpms = barPpms;
       scratch = scratch;
@@ -39,12 +40,12 @@ holding regions rules kinds colours ppms barRules barPpms scratch =
 abbrev worked : Columns → Ended
 worked columns = record { summary = answer 11 3 0 1; columns = columns }
 
-abbrev turnedBack : Summary → ℕ → ℕ → ℕ → ℕ → ℕ → ℕ → ℕ → ℕ → Ended
-turnedBack s regions rules kinds colours ppms barRules barPpms scratch =
+abbrev turnedBack : Summary → ℕ → ℕ → ℕ → ℕ → ℕ → ℕ → ℕ → ℕ → ℕ → Ended
+turnedBack s regions rules kinds colours ppms shapes barRules barPpms scratch =
     record {
       summary = s;
       columns = holding (replicate regions 0) (replicate rules 0) (replicate kinds 0) (replicate colours 0) (replicate ppms 0)
-          (replicate barRules 0) (replicate barPpms 0) (replicate scratch zeroF);
+          (replicate shapes 0) (replicate barRules 0) (replicate barPpms 0) (replicate scratch zeroF);
     }
 
 abbrev marksExceed : Summary
@@ -59,43 +60,45 @@ spaceShort = refusal 6 0 0 0
 marks-short : ended (lengths 2 3 3)
     ≡ record {
       summary = marksExceed;
-      columns = holding (0 ∷ 0 ∷ []) (0 ∷ 0 ∷ []) (0 ∷ 0 ∷ []) (0 ∷ 0 ∷ []) (0 ∷ 0 ∷ []) (0 ∷ 0 ∷ 0 ∷ []) (0 ∷ 0 ∷ 0 ∷ [])
-          (zeroF ∷ zeroF ∷ zeroF ∷ []);
+      columns = holding (0 ∷ 0 ∷ []) (0 ∷ 0 ∷ []) (0 ∷ 0 ∷ []) (0 ∷ 0 ∷ []) (0 ∷ 0 ∷ []) (0 ∷ 0 ∷ []) (0 ∷ 0 ∷ 0 ∷ [])
+          (0 ∷ 0 ∷ 0 ∷ []) (zeroF ∷ zeroF ∷ zeroF ∷ []);
     }
 unfolding jobs samples
 marks-short = refl
 
--- any of the five by itself
-abbrev marksIn : ℕ → ℕ → ℕ → ℕ → ℕ → Ended
-marksIn regions rules kinds colours ppms =
+-- any of the six by itself
+abbrev marksIn : ℕ → ℕ → ℕ → ℕ → ℕ → ℕ → Ended
+marksIn regions rules kinds colours ppms shapes =
     ended (record {
       regions = regions;
       rules = rules;
       kinds = kinds;
       colours = colours;
       ppms = ppms;
+      shapes = shapes;
       barRules = 3;
       barPpms = 3;
       scratch = 3;
     })
 
-one-column-short : marksIn 2 3 3 3 3 ∷ marksIn 3 2 3 3 3 ∷ marksIn 3 3 2 3 3 ∷ marksIn 3 3 3 2 3 ∷ marksIn 3 3 3 3 2 ∷ []
-    ≡ turnedBack marksExceed 2 3 3 3 3 3 3 3 ∷ turnedBack marksExceed 3 2 3 3 3 3 3 3 ∷ turnedBack marksExceed 3 3 2 3 3 3 3 3
-    ∷ turnedBack marksExceed 3 3 3 2 3 3 3 3 ∷ turnedBack marksExceed 3 3 3 3 2 3 3 3 ∷ []
+one-column-short :
+    marksIn 2 3 3 3 3 3 ∷ marksIn 3 2 3 3 3 3 ∷ marksIn 3 3 2 3 3 3 ∷ marksIn 3 3 3 2 3 3 ∷ marksIn 3 3 3 3 2 3 ∷ marksIn 3 3 3 3 3 2 ∷ []
+    ≡ turnedBack marksExceed 2 3 3 3 3 3 3 3 3 ∷ turnedBack marksExceed 3 2 3 3 3 3 3 3 3 ∷ turnedBack marksExceed 3 3 2 3 3 3 3 3 3
+    ∷ turnedBack marksExceed 3 3 3 2 3 3 3 3 3 ∷ turnedBack marksExceed 3 3 3 3 2 3 3 3 3 ∷ turnedBack marksExceed 3 3 3 3 3 2 3 3 3 ∷ []
 unfolding jobs samples
 one-column-short = refl
 
 -- in columns of three
 marks-exact : ended (lengths 3 3 3)
     ≡ worked (holding (2 ∷ 0 ∷ 1 ∷ []) (1 ∷ 0 ∷ 0 ∷ []) (1 ∷ 3 ∷ 3 ∷ []) (0xff0000 ∷ 0x00ff00 ∷ 0x00ff00 ∷ []) (0 ∷ 0 ∷ 500_000 ∷ [])
-    (1 ∷ 1 ∷ 0 ∷ []) (0 ∷ 500_000 ∷ 0 ∷ []) (zeroF ∷ zeroF ∷ zeroF ∷ []))
+    (0 ∷ 0 ∷ 0 ∷ []) (1 ∷ 1 ∷ 0 ∷ []) (0 ∷ 500_000 ∷ 0 ∷ []) (zeroF ∷ zeroF ∷ zeroF ∷ []))
 unfolding jobs samples
 marks-exact = refl
 
 -- in columns of four
 marks-longer : ended (lengths 4 3 3)
     ≡ worked (holding (2 ∷ 0 ∷ 1 ∷ 0 ∷ []) (1 ∷ 0 ∷ 0 ∷ 0 ∷ []) (1 ∷ 3 ∷ 3 ∷ 0 ∷ []) (0xff0000 ∷ 0x00ff00 ∷ 0x00ff00 ∷ 0 ∷ [])
-    (0 ∷ 0 ∷ 500_000 ∷ 0 ∷ []) (1 ∷ 1 ∷ 0 ∷ []) (0 ∷ 500_000 ∷ 0 ∷ []) (zeroF ∷ zeroF ∷ zeroF ∷ []))
+    (0 ∷ 0 ∷ 500_000 ∷ 0 ∷ []) (0 ∷ 0 ∷ 0 ∷ 0 ∷ []) (1 ∷ 1 ∷ 0 ∷ []) (0 ∷ 500_000 ∷ 0 ∷ []) (zeroF ∷ zeroF ∷ zeroF ∷ []))
 unfolding jobs samples
 marks-longer = refl
 
@@ -110,20 +113,21 @@ besides marks barRules barPpms scratch =
       kinds = marks;
       colours = marks;
       ppms = marks;
+      shapes = marks;
       barRules = barRules;
       barPpms = barPpms;
       scratch = scratch;
     })
 
 bars-or-scratch-short : besides 3 2 2 3 ∷ besides 3 2 3 3 ∷ besides 3 3 2 3 ∷ besides 3 3 3 2 ∷ besides 2 3 3 2 ∷ []
-    ≡ turnedBack spaceShort 3 3 3 3 3 2 2 3 ∷ turnedBack spaceShort 3 3 3 3 3 2 3 3 ∷ turnedBack spaceShort 3 3 3 3 3 3 2 3
-    ∷ turnedBack spaceShort 3 3 3 3 3 3 3 2 ∷ turnedBack spaceShort 2 2 2 2 2 3 3 2 ∷ []
+    ≡ turnedBack spaceShort 3 3 3 3 3 3 2 2 3 ∷ turnedBack spaceShort 3 3 3 3 3 3 2 3 3 ∷ turnedBack spaceShort 3 3 3 3 3 3 3 2 3
+    ∷ turnedBack spaceShort 3 3 3 3 3 3 3 3 2 ∷ turnedBack spaceShort 2 2 2 2 2 2 3 3 2 ∷ []
 unfolding jobs samples
 bars-or-scratch-short = refl
 
 -- bar columns of four and five, and scratch of four
 bars-and-scratch-longer : besides 3 4 5 4
     ≡ worked (holding (2 ∷ 0 ∷ 1 ∷ []) (1 ∷ 0 ∷ 0 ∷ []) (1 ∷ 3 ∷ 3 ∷ []) (0xff0000 ∷ 0x00ff00 ∷ 0x00ff00 ∷ []) (0 ∷ 0 ∷ 500_000 ∷ [])
-    (1 ∷ 1 ∷ 0 ∷ 0 ∷ []) (0 ∷ 500_000 ∷ 0 ∷ 0 ∷ 0 ∷ []) (zeroF ∷ zeroF ∷ zeroF ∷ zeroF ∷ []))
+    (0 ∷ 0 ∷ 0 ∷ []) (1 ∷ 1 ∷ 0 ∷ 0 ∷ []) (0 ∷ 500_000 ∷ 0 ∷ 0 ∷ 0 ∷ []) (zeroF ∷ zeroF ∷ zeroF ∷ zeroF ∷ []))
 unfolding jobs samples
 bars-and-scratch-longer = refl

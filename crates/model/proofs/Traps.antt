@@ -13,7 +13,8 @@ use Rattle.model.specs.Job.{Job}
 use Rattle.model.proofs.Computing.{jobs}
 use Rattle.model.proofs.Samples.{samples, whole, number, text, error, down, at, regions}
 use Rattle.model.proofs.Samples.{rows, red, green, blue, rule, prior, stopping, imported, literal, relative, equalTo, equals}
-use Rattle.model.proofs.Samples.{above, jobOf, tally, markRegions, markRules, markKinds, markColours, markPpms, barRules, barPpms}
+use Rattle.model.proofs.Samples.{above, jobOf, tally, markRegions, markRules, markKinds, markColours, markPpms, markShapes}
+use Rattle.model.proofs.Samples.{barRules, barPpms}
 
 -- whole numbers and so many regions down the first column, and these rules
 abbrev over : List ℕ → ℕ → List Rule → Job
@@ -119,6 +120,11 @@ colours-of-marks = refl
 ppms-of-marks : markPpms (over (1 ∷ []) 1 allKinds) ≡ 0 ∷ 0 ∷ 1_000_000 ∷ 1_000_000 ∷ 0 ∷ []
 unfolding jobs samples
 ppms-of-marks = refl
+
+-- only scales and bars have a shape: of one value it is flat
+shapes-of-marks : markShapes (over (1 ∷ []) 1 allKinds) ≡ 0 ∷ 0 ∷ 1 ∷ 1 ∷ 1 ∷ []
+unfolding jobs samples
+shapes-of-marks = refl
 
 -- ---- priorities
 

@@ -1,5 +1,5 @@
 -- The worked job of document 01, computed on the definition: the whole result at limits 100, 11 and 10 and with space for 2 marks,
--- and the eight columns at the end. The answers are the paper's. Assumes nothing.
+-- and the nine columns at the end. The answers are the paper's. Assumes nothing.
 use Prim.Native.Nat.{ℕ}
 use mathlib.Core.Path.{_≡_, refl}
 use mathlib.Core.Bool.{Bool, true, false}
@@ -19,8 +19,9 @@ job =
     jobIn (0x53 ∷ []) (span 0 1) (down (1 ∷ 2 ∷ 3 ∷ [])) (regions 3)
     (allOf (rule (rows 3) (CfRule.DataBar green) ∷ stopping (prior 0 (rule (rows 3) above)) ∷ [])) 0
 
-abbrev mark : ℕ → ℕ → ℕ → ℕ → ℕ → Mark
-mark region rule kind colour ppm = record { region = region; rule = rule; paint = record { kind = kind; colour = colour; ppm = ppm } }
+abbrev mark : ℕ → ℕ → ℕ → ℕ → ℕ → ℕ → Mark
+mark region rule kind colour ppm shape =
+    record { region = region; rule = rule; paint = record { kind = kind; colour = colour; ppm = ppm; shape = shape } }
 
 abbrev state : Bool → ℕ → ℕ → RegionState
 state stopped barRule barPpm = record { stopped = stopped; barRule = barRule; barPpm = barPpm }
@@ -29,7 +30,7 @@ abbrev report : Result
 report =
     record {
       summary = answer 11 3 0 1;
-      marks = mark 2 1 1 0xff0000 0 ∷ mark 0 0 3 0x00ff00 0 ∷ mark 1 0 3 0x00ff00 500_000 ∷ [];
+      marks = mark 2 1 1 0xff0000 0 0 ∷ mark 0 0 3 0x00ff00 0 0 ∷ mark 1 0 3 0x00ff00 500_000 0 ∷ [];
       states = state false 1 0 ∷ state false 1 500_000 ∷ state true 0 0 ∷ [];
     }
 
@@ -45,11 +46,11 @@ limit-10 : result job 10 (lengths 1024 3 3) ≡ refused (refusal 7 0 11 11)
 unfolding jobs samples
 limit-10 = refl
 
--- ---- the columns, of eight lengths
+-- ---- the columns, of nine lengths
 
 abbrev uneven : Lengths
 uneven =
-    record { regions = 5; rules = 4; kinds = 3; colours = 7; ppms = 6; barRules = 3; barPpms = 5; scratch = 4 }
+    record { regions = 5; rules = 4; kinds = 3; colours = 7; ppms = 6; shapes = 8; barRules = 3; barPpms = 5; scratch = 4 }
 
 columns-at-11 : columnsOf job 11 uneven
     ≡ record {
@@ -58,6 +59,7 @@ columns-at-11 : columnsOf job 11 uneven
       kinds = 1 ∷ 3 ∷ 3 ∷ [];
       colours = 0xff0000 ∷ 0x00ff00 ∷ 0x00ff00 ∷ 0 ∷ 0 ∷ 0 ∷ 0 ∷ [];
       ppms = 0 ∷ 0 ∷ 500_000 ∷ 0 ∷ 0 ∷ 0 ∷ [];
+      shapes = 0 ∷ 0 ∷ 0 ∷ 0 ∷ 0 ∷ 0 ∷ 0 ∷ 0 ∷ [];
       barRules = 1 ∷ 1 ∷ 0 ∷ [];
       barPpms = 0 ∷ 500_000 ∷ 0 ∷ 0 ∷ 0 ∷ [];
       scratch = zeroF ∷ zeroF ∷ zeroF ∷ zeroF ∷ [];
@@ -72,6 +74,7 @@ columns-at-10 : columnsOf job 10 uneven
       kinds = replicate 3 0;
       colours = replicate 7 0;
       ppms = replicate 6 0;
+      shapes = replicate 8 0;
       barRules = replicate 3 0;
       barPpms = replicate 5 0;
       scratch = replicate 4 zeroF;
@@ -81,7 +84,7 @@ columns-at-10 = refl
 
 -- one mark column of 2 makes the space 2, and three marks exceed it
 abbrev narrow : Lengths
-narrow = record { regions = 5; rules = 4; kinds = 3; colours = 2; ppms = 6; barRules = 3; barPpms = 3; scratch = 3 }
+narrow = record { regions = 5; rules = 4; kinds = 3; colours = 2; ppms = 6; shapes = 6; barRules = 3; barPpms = 3; scratch = 3 }
 
 narrow-space : markSpace narrow ≡ 2
 unfolding jobs

@@ -9,13 +9,14 @@ use Rattle.model.specs.Run.{Mark, RegionState}
 use Rattle.model.specs.Answer.{Result}
 use Rattle.model.specs.Job.{Job, Lengths, result}
 
--- the eight columns that are lent for writing
+-- the nine columns that are lent for writing
 pub record Columns : Type 0 where
   pub regions : List ℕ
   pub rules : List ℕ
   pub kinds : List ℕ
   pub colours : List ℕ
   pub ppms : List ℕ
+  pub shapes : List ℕ
   pub barRules : List ℕ
   pub barPpms : List ℕ
   pub scratch : List Float
@@ -32,6 +33,7 @@ written r l =
       kinds = column (l .kinds) (λ (m : Mark). m .paint .kind) (r .marks);
       colours = column (l .colours) (λ (m : Mark). m .paint .colour) (r .marks);
       ppms = column (l .ppms) (λ (m : Mark). m .paint .ppm) (r .marks);
+      shapes = column (l .shapes) (λ (m : Mark). m .paint .shape) (r .marks);
       barRules = column (l .barRules) (λ (s : RegionState). s .barRule) (r .states);
       barPpms = column (l .barPpms) (λ (s : RegionState). s .barPpm) (r .states);
       scratch = replicate (l .scratch) zeroF;

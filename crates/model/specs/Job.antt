@@ -27,20 +27,21 @@ pub record Job : Type 0 where
   pub rules : Rules
   pub start : ℕ
 
--- the lengths of the eight columns that are lent for writing
+-- the lengths of the nine columns that are lent for writing
 pub record Lengths : Type 0 where
   pub regions : ℕ
   pub rules : ℕ
   pub kinds : ℕ
   pub colours : ℕ
   pub ppms : ℕ
+  pub shapes : ℕ
   pub barRules : ℕ
   pub barPpms : ℕ
   pub scratch : ℕ
 
 -- the space for marks is the shortest of the mark columns
 unfoldable pub markSpace : Lengths → ℕ
-markSpace l = min (l .regions) (min (l .rules) (min (l .kinds) (min (l .colours) (l .ppms))))
+markSpace l = min (l .regions) (min (l .rules) (min (l .kinds) (min (l .colours) (min (l .ppms) (l .shapes)))))
 
 unfoldable pub rulesOf : Job → List Rule
 rulesOf j = take (j .rules .number) (j .rules .records)

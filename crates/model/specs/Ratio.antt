@@ -1,5 +1,5 @@
--- Ratio and colour: a value's place between two ends in parts per million, and a colour between two colours
--- (document 01, 'Ratio and colour'). Each operation on floats is IEEE 754's, rounded once. Assumes nothing.
+-- Ratio and colour: a value's place between two ends in parts per million, what it says of the ends, and a colour between two colours
+-- (document 01, 'Ratio and colour'; document 02). Each operation on floats is IEEE 754's, rounded once. Assumes nothing.
 use Prim.Native.Nat.{ℕ, _+_, _-_, _*_, _/_, _^_, min, max}
 use mathlib.Core.Bool.{false, cond}
 use lib.Dec.{eqb}
@@ -7,6 +7,9 @@ use lib.IntN.{ℤ, pos, negsuc, _+ℤ_, _-ℤ_, _*ℤ_}
 use lib.Signed.{quotZ}
 use lib.Ieee.{Float, nan, inf, fin, binary64, up, down, sub, mul, div, lt, le}
 use Rattle.model.specs.declared.Rgb.{Rgb}
+use Rattle.model.specs.declared.Shape.{Shape}
+use Rattle.model.specs.declared.Normalized.{Normalized}
+use Rattle.model.specs.Readings.{finite}
 
 -- 0, 1, 2 and 1,000,000 = 15,625 × 2^6 as floats
 abbrev pub zeroF : Float
@@ -37,10 +40,24 @@ rounded (fin negative m e) = cond negative 0 (min ((2 * (m * up e) + down e) / (
 unfoldable pub quotient : Float → Float → Float → Float
 quotient value minimum maximum = div binary64 (sub binary64 value minimum) (sub binary64 maximum minimum)
 
--- normalized_ppm; flat ends are asked first
+-- normalized_ppm, and the shape: flat ends are asked first, and ends that are not flat are too wide if their difference is not finite
+unfoldable pub normalized : Float → Float → Float → Normalized
+normalized value minimum maximum =
+    cond (le maximum minimum) (record { ppm = 1_000_000; shape = Shape.Flat })
+    (record {
+      ppm = rounded (mul binary64 (heldToUnit (quotient value minimum maximum)) millionF);
+      shape = cond (finite (sub binary64 maximum minimum)) Shape.Plain Shape.TooWide;
+    })
+
+-- the ppm alone
 unfoldable pub ratio : Float → Float → Float → ℕ
-ratio value minimum maximum =
-    cond (le maximum minimum) 1_000_000 (rounded (mul binary64 (heldToUnit (quotient value minimum maximum)) millionF))
+ratio value minimum maximum = normalized value minimum maximum .ppm
+
+-- document 02's number for each shape
+unfoldable pub shapeNumber : Shape → ℕ
+shapeNumber Shape.Plain = 0
+shapeNumber Shape.Flat = 1
+shapeNumber Shape.TooWide = 2
 
 -- Added: how many of forty cells a bar fills. None for 0 ppm, and otherwise at least one, so that a finger tells a short bar from none
 -- (document 02)

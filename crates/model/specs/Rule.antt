@@ -17,12 +17,13 @@ use Rattle.model.specs.declared.CfRule.{CfRule}
 use Rattle.model.specs.declared.Rule.{Rule}
 use Rattle.model.specs.declared.Test.{Test}
 use Rattle.model.specs.declared.Plan.{Plan}
+use Rattle.model.specs.declared.Normalized.{Normalized}
 use Rattle.model.specs.declared.Outcome.{Outcome}
 use Rattle.model.specs.Sheet.{Sheet, CellAt, inRange, upright, withinGrid, area}
 use Rattle.model.specs.Readings.{numericCellValue, numericAt, conditionalValueKey, sameKey, hasKey, keyAt}
 use Rattle.model.specs.References.{resolved, unread}
 use Rattle.model.specs.Comparison.{usesSecond, compareConditional, compare}
-use Rattle.model.specs.Ratio.{ratio, interpolateRgb, packed}
+use Rattle.model.specs.Ratio.{normalized, shapeNumber, interpolateRgb, packed}
 use Rattle.model.specs.Values.{least, greatest, sorted, midpoint, selected, threshold, average}
 
 -- ---- the cells of a range, in sheet order
@@ -141,6 +142,17 @@ isBar (CfRule.AboveAverage below fill) = false
 isBar (CfRule.DuplicateValues unique fill) = false
 isBar (CfRule.Expression op left right fill) = false
 
+-- scales and bars: the rules whose marks have a shape
+unfoldable pub hasShape : CfRule → Bool
+hasShape (CfRule.CellIs op first second fill) = false
+hasShape (CfRule.ColorScale2 min max) = true
+hasShape (CfRule.ColorScale3 min mid max) = true
+hasShape (CfRule.DataBar color) = true
+hasShape (CfRule.TopBottom number bottom percent fill) = false
+hasShape (CfRule.AboveAverage below fill) = false
+hasShape (CfRule.DuplicateValues unique fill) = false
+hasShape (CfRule.Expression op left right fill) = false
+
 -- a bar rule that had a value; an inverted range has none
 unfoldable pub isSimplified : Sheet → Rule → Bool
 isSimplified s r = isBar (r .kind) && ltb 0 (length (values s (r .range)))
@@ -148,17 +160,22 @@ isSimplified s r = isBar (r .kind) && ltb 0 (length (values s (r .range)))
 -- ---- what a rule says of a region in range
 
 -- kind 2 in place of 1, without a colour, if the rule has an imported style
-unfoldable pub filled : Bool → Rgb → Outcome
-filled imported fill =
+unfoldable pub filled : Bool → ℕ → Rgb → Outcome
+filled imported shape fill =
     cond imported
-    (Outcome.Painted (record { kind = 2; colour = 0; ppm = 0 }))
-    (Outcome.Painted (record { kind = 1; colour = packed fill; ppm = 0 }))
+    (Outcome.Painted (record { kind = 2; colour = 0; ppm = 0; shape = shape }))
+    (Outcome.Painted (record { kind = 1; colour = packed fill; ppm = 0; shape = shape }))
 
-unfoldable pub barred : Bool → Rgb → ℕ → Outcome
-barred imported color ppm = Outcome.Painted (record { kind = cond imported 4 3; colour = packed color; ppm = ppm })
+-- a colour between two; `more` is what the half of a scale adds to the shape
+unfoldable pub scaled : Bool → ℕ → Rgb → Rgb → Normalized → Outcome
+scaled imported more start end n = filled imported (more + shapeNumber (n .shape)) (interpolateRgb start end (n .ppm))
+
+unfoldable pub barred : Bool → Rgb → Normalized → Outcome
+barred imported color n =
+    Outcome.Painted (record { kind = cond imported 4 3; colour = packed color; ppm = n .ppm; shape = shapeNumber (n .shape) })
 
 unfoldable pub filledIf : Bool → Bool → Rgb → Outcome
-filledIf met imported fill = cond met (filled imported fill) Outcome.Passed
+filledIf met imported fill = cond met (filled imported 0 fill) Outcome.Passed
 
 -- a cell without a number is passed over
 unfoldable pub onValue : Reading → (Float → Outcome) → Outcome
@@ -183,12 +200,12 @@ verdict s r at (Test.CellIs op first second fill) =
     onSecond (usesSecond op) (resolved s (r .range) at second) (λ b.
     filledIf (compareConditional x op a b) (r .imported) fill)))
 verdict s r at (Test.ColorScale2 min max low high) =
-    onValue (numericAt (s .cells) at) (λ x. filled (r .imported) (interpolateRgb min max (ratio x low high)))
+    onValue (numericAt (s .cells) at) (λ x. scaled (r .imported) 0 min max (normalized x low high))
 verdict s r at (Test.ColorScale3 min mid max low middle high) =
     onValue (numericAt (s .cells) at) (λ x.
-    filled (r .imported) (cond (le x middle) (interpolateRgb min mid (ratio x low middle)) (interpolateRgb mid max (ratio x middle high))))
+    cond (le x middle) (scaled (r .imported) 0 min mid (normalized x low middle)) (scaled (r .imported) 3 mid max (normalized x middle high)))
 verdict s r at (Test.DataBar color low high) =
-    onValue (numericAt (s .cells) at) (λ x. barred (r .imported) color (ratio x low high))
+    onValue (numericAt (s .cells) at) (λ x. barred (r .imported) color (normalized x low high))
 verdict s r at (Test.TopBottom bottom bound fill) =
     onValue (numericAt (s .cells) at) (λ x. filledIf (cond bottom (le x bound) (le bound x)) (r .imported) fill)
 verdict s r at (Test.AboveAverage below bound fill) =

@@ -105,7 +105,7 @@ parts bytes = place (split bytes) ++ rightPart bytes
 unfoldable pub tinyColours : List ℕ
 tinyColours =
     toBits binary64 (midpoint (tiny ∷ tiny ∷ []))
-    ∷ columnsOf tinyJob 100 (record { regions = 2; rules = 2; kinds = 2; colours = 2; ppms = 2; barRules = 2; barPpms = 2; scratch = 2 })
+    ∷ columnsOf tinyJob 100 (record { regions = 2; rules = 2; kinds = 2; colours = 2; ppms = 2; shapes = 2; barRules = 2; barPpms = 2; scratch = 2 })
     .colours
 
 -- `Ab`, `aB` and `1`

@@ -239,11 +239,27 @@ pub enum Plan {
     Tested(Test),
 }
 
-// A mark without its place, as the mark columns hold it: kind 1 fill, 2 imported style, 3 bar, 4 bar with imported style.
+// What a ratio says of its ends: it is a place between them, they are flat, or their difference is not finite. `Ratio.antt` gives document
+// 02's number for each case.
+pub enum Shape {
+    Plain,
+    Flat,
+    TooWide,
+}
+
+// A ratio: the place of a value between two ends, in parts per million, and what it says of the ends.
+pub struct Normalized {
+    pub ppm: u32,
+    pub shape: Shape,
+}
+
+// A mark without its place, as the mark columns hold it: kind 1 fill, 2 imported style, 3 bar, 4 bar with imported style; shape the number
+// of its ratio's shape, 3 more in the upper half of a scale with three colours, 0 for rules other than scales and bars.
 pub struct Paint {
     pub kind: u32,
     pub colour: u32,
     pub ppm: u32,
+    pub shape: u32,
 }
 
 // What a rule says of one region: it is stopped, it gets no mark, an operand reads to no number, or it gets a mark.

@@ -15,6 +15,7 @@ use lib.Ieee.Order.{round-mono}
 use lib.Ieee.Scale.{round-same}
 use borrow.Author.Tests.{ltb-true, ltb-false}
 use Rattle.model.specs.Ratio.{zeroF, oneF, millionF, heldToUnit, rounded, quotient, ratio}
+use Rattle.model.proofs.RatioParts.{ratio-is}
 use Rattle.ratio.specs.UpTo.{upTo}
 use Rattle.ratio.specs.Spanned.{spanned}
 use Rattle.ratio.proofs.Rounding.{at-most-of-le}
@@ -179,8 +180,7 @@ unfolding spanned
 spanned-at-most v low span = unit-at-most _
 
 pub ratio-at-most : (v a b : Float) → ratio v a b ≤ 1_000_000
-unfolding ratio
-ratio-at-most v a b = flat (le b a)
+ratio-at-most v a b = rw ratio-is (flat (le b a))
   where
     flat : (t : Bool) → cond t 1_000_000 (rounded (millionfold (heldToUnit (quotient v a b)))) ≤ 1_000_000
     flat true = lit≤ tt
@@ -189,8 +189,8 @@ ratio-at-most v a b = flat (le b a)
 -- ---- of ends that are not flat
 
 pub ratio-spanned : (v a b : Float) → le b a ≡ false → ratio v a b ≡ spanned v a (sub binary64 b a)
-unfolding ratio quotient spanned
-ratio-spanned v a b rises = rw rises
+unfolding quotient spanned
+ratio-spanned v a b rises = rw (ratio-is, rises)
 
 -- of three
 pub among-spanned : (v least midpoint greatest : Float) → le midpoint least ≡ false → le greatest midpoint ≡ false

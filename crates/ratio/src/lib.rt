@@ -1,14 +1,19 @@
-// Ratio and colour: a value's place between two ends in parts per million, and a colour between two colours. Scales and bars ask for
-// them once for each region, so up to 1,000,000 neither has a branch on the value, which a processor would often guess wrong.
+// Ratio and colour: a value's place between two ends in parts per million, the shape that its ends give it, and a colour between two
+// colours. Scales and bars ask for place and colour once for each region, so up to 1,000,000 neither has a branch on the value, which a
+// processor would often guess wrong.
 ghost use mathlib.Core.Path.{_≡_};
 ghost use mathlib.Core.Bool.{cond};
 ghost use Prim.Native.Nat.{_+_, _-_, _≤_, min};
 ghost use lib.Dec.{T, leb};
-ghost use lib.Ieee.{binary64, mul, le};
-ghost use Rattle.model.specs.Ratio.{millionF, heldToUnit, rounded, ratio, barCells, heldToByte, channel, interpolateRgb, packed};
+ghost use lib.Ieee.{Float, binary64, mul, le};
+ghost use Rattle.model.specs.Ratio.{millionF, heldToUnit, rounded, normalized, ratio, shapeNumber, barCells};
+ghost use Rattle.model.specs.Ratio.{heldToByte, channel, interpolateRgb, packed};
 ghost use Rattle.ratio.specs.UpTo.{upTo};
 ghost use Rattle.ratio.specs.Spanned.{spanned};
+use model::Normalized;
 use model::Rgb;
+use model::Shape;
+use readings::number::is_finite;
 
 // ---- ratio
 
@@ -38,6 +43,39 @@ pub fn normalized_ppm(value: f64, minimum: f64, maximum: f64) -> u32
 {
     let ppm = rounded(held_to_unit((value - minimum) / (maximum - minimum)) * 1_000_000.0);
     if maximum <= minimum { 1_000_000 } else { ppm }
+}
+
+// The shape of a ratio between these ends: the value has no part in it.
+pub fn shape_of(minimum: f64, maximum: f64) -> Shape
+    ensures { λ r. ⌜ ((value : Float) → r ≡ normalized value minimum maximum .shape) ⌝ }
+{
+    if maximum <= minimum {
+        return Shape::Flat;
+    }
+    if is_finite(maximum - minimum) {
+        return Shape::Plain;
+    }
+    Shape::TooWide
+}
+
+// The number of a shape, as the shape column holds it.
+pub fn shape_number(shape: Shape) -> u32
+    ensures { λ r. ⌜ r ≡ shapeNumber shape ⌝ }
+{
+    match shape {
+        Shape::Plain => 0,
+        Shape::Flat => 1,
+        Shape::TooWide => 2,
+    }
+}
+
+// A ratio with its shape.
+pub fn normalized_ratio(value: f64, minimum: f64, maximum: f64) -> Normalized
+    ensures { λ r. ⌜ r ≡ normalized value minimum maximum ⌝ }
+{
+    let ppm = normalized_ppm(value, minimum, maximum);
+    let shape = shape_of(minimum, maximum);
+    Normalized { ppm, shape }
 }
 
 // The place of a value among three ends, in parts per million of the half where it lies, and 1,000,000 more in the upper half: the midpoint

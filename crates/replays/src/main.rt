@@ -146,7 +146,7 @@ fn replay_report(fd: i32, mut st: State, text: &[u8], line: Line) -> State {
     st.at = part.next;
     let length = part.length;
     // the longest report
-    let mut report = [0u8; 42979];
+    let mut report = [0u8; 45033];
     let n = report_on(text, &mut report);
     let st = saved(st, text, &report[..n]);
     compared(st, &expected[..length], &report[..n])

@@ -4,6 +4,7 @@ use Prim.Native.Nat.{ℕ, suc, _+_, _-_, _≤_, _<_}
 use native.Mathlib.Numerals.{add-one}
 use native.Mathlib.Omega.{arith}
 use mathlib.Core.Path.{_≡_}
+use mathlib.Core.Bool.{Bool}
 use mathlib.Core.List.{List, [], _++_}
 use lib.ListN.{length}
 use borrow.Author.Tests.{eq-eqb, ne-eqb}
@@ -16,21 +17,23 @@ use Rattle.reporttext.specs.Shown.{markIn, marksIn, barOf, barIn, barsIn}
 -- ---- marks
 
 -- the lines from mark i on, of n
-module _ (regions rules kinds colours ppms : List ℕ) where
+module _ (shaped : ℕ → Bool) (regions rules kinds colours ppms shapes : List ℕ) where
   unfoldable pub marksFrom : ℕ → ℕ → List ℕ
-  marksFrom n i = timesText markLine (marksIn regions rules kinds colours ppms i (n - i))
+  marksFrom n i = timesText (markLine shaped) (marksIn regions rules kinds colours ppms shapes i (n - i))
 
-  pub marks-all : (n : ℕ) → marksFrom n 0 ≡ timesText markLine (marksIn regions rules kinds colours ppms 0 n)
+  pub marks-all : (n : ℕ) → marksFrom n 0 ≡ timesText (markLine shaped) (marksIn regions rules kinds colours ppms shapes 0 n)
   unfolding marksFrom
   marks-all n = let e : n - 0 ≡ n = omega arith in rw e
 
-  marks-next : (n i : ℕ) → i < n → marksFrom n i ≡ markLine (markIn regions rules kinds colours ppms i) ++ marksFrom n (i + 1)
+  marks-next : (n i : ℕ) → i < n
+      → marksFrom n i ≡ markLine shaped (markIn regions rules kinds colours ppms shapes i) ++ marksFrom n (i + 1)
   unfolding marksFrom marksIn timesText
   marks-next n i h = let e : n - i ≡ suc (n - suc i) = omega arith in rw (add-one, e)
 
   -- a line more
   pub marks-more : {d e f : List ℕ} {at q r : ℕ} (n i : ℕ) → length d < last → i < n → LaidLeft d at (marksFrom n 0) e q (marksFrom n i)
-      → Laid e q (markLine (markIn regions rules kinds colours ppms i)) f r → LaidLeft d at (marksFrom n 0) f r (marksFrom n (i + 1))
+      → Laid e q (markLine shaped (markIn regions rules kinds colours ppms shapes i)) f r
+      → LaidLeft d at (marksFrom n 0) f r (marksFrom n (i + 1))
   marks-more n i room h l a = left-more room l (marks-next n i h) a
 
   pub marks-none : (n i : ℕ) → n ≤ i → marksFrom n i ≡ []

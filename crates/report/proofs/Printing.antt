@@ -44,7 +44,9 @@ printed-all n {ts} e same l b = (
 -- ---- the marks of an answer
 
 abbrev shortest : Columns → ℕ
-shortest c = min (length (c .regions)) (min (length (c .rules)) (min (length (c .kinds)) (min (length (c .colours)) (length (c .ppms)))))
+shortest c =
+    min (length (c .regions)) (min (length (c .rules)) (min (length (c .kinds))
+    (min (length (c .colours)) (min (length (c .ppms)) (length (c .shapes))))))
 
 module _ (c : Columns) {s t : Summary} {space : ℕ} (same : t ≡ s) (is : space ≡ shortest c) where
   pub all-held : t .marks ≤ space → holdsMarks s c ≡ true

@@ -11,6 +11,6 @@ unfoldable pub lines : Unit {0}
 unfolding Parts.bytes Parts.timesText Numbers.digits Numbers.hexDigit Numbers.hexDigits Run.hasBar Ratio.barCells
     Answer.refusal Answer.answer Answer.refused
     Report.summaryNames Report.summaryLine Report.markNames Report.hasColour Report.paintText Report.markLine Report.barNames
-    Report.barLine Report.barLines Report.summaryText Report.marksText Report.barsText Report.reportOf
+    Report.barLine Report.barLines Report.summaryText Report.marksText Report.barsText Report.shapedAt Report.reportOf
     Shown.marksIn Shown.barsIn Shown.resultIn
 lines = tt

@@ -1,4 +1,4 @@
--- The longest report that any job can have. A line of a mark has at most 24 bytes and the digits of its region, a line of a bar at most
+-- The longest report that any job can have. A line of a mark has at most 26 bytes and the digits of its region, a line of a bar at most
 -- 12 and these; no region has more digits than four, and what a bar's region has fewer, a mark of that region has fewer too. So the
 -- longest has 1,024 marks, one at each region, all of them bars of 1,000,000 ppm by a rule of two digits. Assumes nothing.
 use Prim.Native.Nat.{ℕ, zero, suc, _+_, _-_, _*_, _/_, _%_, _≤_, _<_}
@@ -11,17 +11,19 @@ use lib.Dec.{ltb, eqb}
 use lib.ListN.{length, length-append}
 use borrow.Author.Tests.{ltb-true, ltb-false}
 use Rattle.model.specs.declared.Paint.{Paint}
+use Rattle.model.specs.declared.Rule.{Rule}
 use Rattle.model.specs.Ratio.{barCells}
 use Rattle.model.specs.Run.{Run, Mark, RegionState, hasBar}
 use Rattle.model.specs.Answer.{Summary, answer, answered, refused}
-use Rattle.model.specs.Job.{runOf, result}
+use Rattle.model.specs.Job.{rulesOf, runOf, result}
 use Rattle.laws.proofs.Ratio.{bar-cells-at-most}
 use Rattle.laws.proofs.Results.{WholeJob, Refused, result-is}
 use Rattle.grammar.specs.Parts.{bytes, timesText}
 use Rattle.grammar.specs.Numbers.{digits, decimalText, hexDigit, hexDigits}
 use Rattle.grammar.proofs.Decimals.{top}
 use Rattle.reporttext.specs.Report as Report
-use Rattle.reporttext.specs.Report.{orDash, hasColour, paintText, markLine, barLine, barLines, summaryText, reportOf}
+use Rattle.reporttext.specs.Report.{orDash, hasColour, paintText, markLine, barLine, barLines, summaryText, shapedAt, reportOf}
+use Rattle.reporttext.specs.Reports.{jobReport}
 use Rattle.reporttext.specs.Longest.{longest, Longest}
 use Rattle.reporttext.proofs.Shown.{report-answered, report-refused}
 use Rattle.reporttext.proofs.Painted.{SmallPaint}
@@ -99,31 +101,33 @@ hex-length (suc k) n = omega (arith, length-append (hexDigits k (n / 16)) (hexDi
 colour-few : (end c : ℕ) → Most 7 (Report.colour end c)
 colour-few end c = record { bytes = omega (arith, length-append (hexDigits 6 c) (end ∷ []), hex-length 6 c) }
 
-paint-few : (p : Paint) → SmallPaint p → Most 20 (paintText p)
+paint-few : (shaped : Bool) (p : Paint) → SmallPaint p → Most 22 (paintText shaped p)
 unfolding paintText
-paint-few p h =
+paint-few shaped p h =
     joined (number-few 32 0 (p .kind) (omega (arith, h .kind))) (
     joined (or-dash-most (hasColour p) 32 (omega arith) (colour-few 32 (p .colour))) (
-    joined (or-dash-most (hasBar p) 32 (omega arith) (number-few 32 6 (p .ppm) (omega (arith, h .ppm))))
-    (or-dash-most (hasBar p) 10 (omega arith)
-    (number-few 10 1 (barCells (p .ppm)) (omega (arith, bar-cells-at-most (p .ppm) (h .ppm)))))))
+    joined (or-dash-most (hasBar p) 32 (omega arith) (number-few 32 6 (p .ppm) (omega (arith, h .ppm)))) (
+    joined (or-dash-most (hasBar p) 32 (omega arith)
+    (number-few 32 1 (barCells (p .ppm)) (omega (arith, bar-cells-at-most (p .ppm) (h .ppm)))))
+    (or-dash-most shaped 10 (omega arith) (number-few 10 0 (p .shape) (omega (arith, h .shape)))))))
 
-mark-few : (m : Mark) → SmallMark 1024 m → length (markLine m) + spare (m .region) ≤ 28
-unfolding markLine
-mark-few m h =
-    let rest = joined (number-few 32 1 (m .rule) (omega (arith, h .rule))) (paint-few (m .paint) (h .paint)) in
-    omega (
-      arith,
-      length-append (Report.number 32 (m .region)) (Report.number 32 (m .rule) ++ paintText (m .paint)),
-      rest .bytes,
-      region-few 32 (m .region) (h .region),
-    )
+module _ (shaped : ℕ → Bool) where
+  mark-few : (m : Mark) → SmallMark 1024 m → length (markLine shaped m) + spare (m .region) ≤ 30
+  unfolding markLine
+  mark-few m h =
+      let rest = joined (number-few 32 1 (m .rule) (omega (arith, h .rule))) (paint-few (shaped (m .rule)) (m .paint) (h .paint)) in
+      omega (
+        arith,
+        length-append (Report.number 32 (m .region)) (Report.number 32 (m .rule) ++ paintText (shaped (m .rule)) (m .paint)),
+        rest .bytes,
+        region-few 32 (m .region) (h .region),
+      )
 
-marks-few : (ms : List Mark) → SmallMarks 1024 ms → length (timesText markLine ms) + marksSpare ms ≤ 28 * length ms
-unfolding timesText marksSpare
-marks-few [] h = omega arith
-marks-few (m ∷ ms) h =
-    omega (arith, length-append (markLine m) (timesText markLine ms), mark-few m (h .0), marks-few ms (h .1))
+  marks-few : (ms : List Mark) → SmallMarks 1024 ms → length (timesText (markLine shaped) ms) + marksSpare ms ≤ 30 * length ms
+  unfolding timesText marksSpare
+  marks-few [] h = omega arith
+  marks-few (m ∷ ms) h =
+      omega (arith, length-append (markLine shaped m) (timesText (markLine shaped) ms), mark-few m (h .0), marks-few ms (h .1))
 
 -- ---- bars
 
@@ -179,7 +183,7 @@ summary-names : length Report.summaryNames ≡ 52
 unfolding bytes Report.summaryNames
 summary-names = refl
 
-mark-names : length Report.markNames ≡ 34
+mark-names : length Report.markNames ≡ 40
 unfolding bytes Report.markNames
 mark-names = refl
 
@@ -217,15 +221,17 @@ answer-few count marks deferred simplified h k l =
 
 -- ---- the report
 
-answered-most : (count : ℕ) (r : Run) → SmallJob r → length (r .marks) ≤ 1024 → length (reportOf (answered count r)) ≤ longest
+answered-most : (rules : List Rule) (count : ℕ) (r : Run) → SmallJob r → length (r .marks) ≤ 1024
+    → length (reportOf rules (answered count r)) ≤ longest
 unfolding answered answer Report.marksText Report.barsText barsSpare
-answered-most count r h few =
+answered-most rules count r h few =
+    let shaped = shapedAt rules in
     let small = h .run in
     let head = answer-few count (length (r .marks)) (r .deferred) (r .simplified) few (small .deferred) (small .simplified) in
-    let marks = marks-few (r .marks) (small .marks) in
+    let marks = marks-few shaped (r .marks) (small .marks) in
     let bars = bars-few 0 (r .states) (omega (arith, h .states)) (small .states) in
     let all = room-more 0 (length (r .states)) 1024 (h .states) in
-    let text = report-answered (answered count r) refl in
+    let text = report-answered rules (answered count r) refl in
     omega (
       arith,
       ap length text,
@@ -237,20 +243,20 @@ answered-most count r h few =
       small .spared,
       mark-names,
       bar-names,
-      length-append (summaryText (answered count r .summary)) (Report.marksText (r .marks) ++ Report.barsText (r .states)),
-      length-append (Report.marksText (r .marks)) (Report.barsText (r .states)),
-      length-append Report.markNames (timesText markLine (r .marks)),
+      length-append (summaryText (answered count r .summary)) (Report.marksText shaped (r .marks) ++ Report.barsText (r .states)),
+      length-append (Report.marksText shaped (r .marks)) (Report.barsText (r .states)),
+      length-append Report.markNames (timesText (markLine shaped) (r .marks)),
       length-append Report.barNames (barLines 0 (r .states)),
     )
 
 -- a refusal, of a text too
-pub refused-most : (s : Summary) → (s .number ≡ 0 → ⊥) → length (reportOf (refused s)) ≤ 199
+pub refused-most : (rules : List Rule) (s : Summary) → (s .number ≡ 0 → ⊥) → length (reportOf rules (refused s)) ≤ 199
 unfolding refused
-refused-most s h = omega (arith, ap length (report-refused (refused s) h), summary-most s)
+refused-most rules s h = omega (arith, ap length (report-refused rules (refused s) h), summary-most s)
 
 pub longest-holds : Longest
 longest-holds j limit l space = go (result-is j limit l)
   where
-    go : WholeJob j limit l ⊎ Refused (result j limit l) → length (reportOf (result j limit l)) ≤ longest
-    go (inl w) = rw (w .run .is) (answered-most _ (runOf j) (small-job j (w .wellFormed)) (omega (arith, w .run .fits)))
-    go (inr w) = rw (w .is) (omega (arith, refused-most (w .why) (w .number)))
+    go : WholeJob j limit l ⊎ Refused (result j limit l) → length (jobReport j limit l) ≤ longest
+    go (inl w) = rw (w .run .is) (answered-most (rulesOf j) _ (runOf j) (small-job j (w .wellFormed)) (omega (arith, w .run .fits)))
+    go (inr w) = rw (w .is) (omega (arith, refused-most (rulesOf j) (w .why) (w .number)))

@@ -1,24 +1,29 @@
--- What a rule says of a region is small: a mark's kind is one of 1 to 4, and its ppm at most 1,000,000. Assumes nothing.
-use Prim.Native.Nat.{ℕ, _≤_}
+-- What a rule says of a region is small: a mark's kind is one of 1 to 4, its ppm at most 1,000,000, and its shape at most 5.
+-- Assumes nothing.
+use Prim.Native.Nat.{ℕ, _≤_, _+_}
 use native.Mathlib.Omega.{arith}
 use mathlib.Core.Bool.{Bool, true, false, cond}
 use mathlib.Core.List.{List, [], _∷_}
-use lib.Ieee.{Float}
+use lib.Ieee.{Float, le}
 use Rattle.model.specs.declared.CellCoordinate.{CellCoordinate}
+use Rattle.model.specs.declared.Normalized.{Normalized}
 use Rattle.model.specs.declared.Outcome.{Outcome}
 use Rattle.model.specs.declared.Paint.{Paint}
 use Rattle.model.specs.declared.Reading.{Reading}
 use Rattle.model.specs.declared.Rgb.{Rgb}
 use Rattle.model.specs.declared.Rule.{Rule}
+use Rattle.model.specs.declared.Shape.{Shape}
 use Rattle.model.specs.declared.Test.{Test}
 use Rattle.model.specs.Sheet.{Sheet, inRange}
-use Rattle.model.specs.Rule.{filled, barred, filledIf, onValue, onOperand, onSecond, verdict}
+use Rattle.model.specs.Ratio.{normalized, ratio, shapeNumber}
+use Rattle.model.specs.Rule.{filled, scaled, barred, filledIf, onValue, onOperand, onSecond, verdict}
 use Rattle.model.specs.Run.{RegionState, outcome, outcomes}
 use Rattle.laws.proofs.Ratio.{ratio-at-most}
 
 pub record SmallPaint (p : Paint) : Type 0 where
   pub kind : p .kind ≤ 4
   pub ppm : p .ppm ≤ 1_000_000
+  pub shape : p .shape ≤ 5
 
 abbrev pub SmallOutcome : Outcome → Type 0
 SmallOutcome Outcome.Stopped = Unit {0}
@@ -28,19 +33,30 @@ SmallOutcome (Outcome.Painted p) = SmallPaint p
 
 -- ---- the parts of a verdict
 
-small-filled : (imported : Bool) (fill : Rgb) → SmallOutcome (filled imported fill)
-unfolding filled
-small-filled true fill = record { kind = omega arith; ppm = omega arith }
-small-filled false fill = record { kind = omega arith; ppm = omega arith }
+shape-small : (s : Shape) → shapeNumber s ≤ 2
+unfolding shapeNumber
+shape-small Shape.Plain = omega arith
+shape-small Shape.Flat = omega arith
+shape-small Shape.TooWide = omega arith
 
-small-barred : (imported : Bool) (color : Rgb) (ppm : ℕ) → ppm ≤ 1_000_000 → SmallOutcome (barred imported color ppm)
+small-filled : (imported : Bool) (shape : ℕ) (fill : Rgb) → shape ≤ 5 → SmallOutcome (filled imported shape fill)
+unfolding filled
+small-filled true shape fill h = record { kind = omega arith; ppm = omega arith; shape = h }
+small-filled false shape fill h = record { kind = omega arith; ppm = omega arith; shape = h }
+
+small-scaled : (imported : Bool) (more : ℕ) (start end : Rgb) (n : Normalized) → more ≤ 3 → SmallOutcome (scaled imported more start end n)
+unfolding scaled
+small-scaled imported more start end n h =
+    small-filled imported (more + shapeNumber (n .shape)) _ (omega (arith, shape-small (n .shape)))
+
+small-barred : (imported : Bool) (color : Rgb) (n : Normalized) → n .ppm ≤ 1_000_000 → SmallOutcome (barred imported color n)
 unfolding barred
-small-barred true color ppm h = record { kind = omega arith; ppm = h }
-small-barred false color ppm h = record { kind = omega arith; ppm = h }
+small-barred true color n h = record { kind = omega arith; ppm = h; shape = omega (arith, shape-small (n .shape)) }
+small-barred false color n h = record { kind = omega arith; ppm = h; shape = omega (arith, shape-small (n .shape)) }
 
 small-filled-if : (met imported : Bool) (fill : Rgb) → SmallOutcome (filledIf met imported fill)
 unfolding filledIf
-small-filled-if true imported fill = small-filled imported fill
+small-filled-if true imported fill = small-filled imported 0 fill (omega arith)
 small-filled-if false imported fill = tt
 
 small-on-value : (x : Reading) (say : Float → Outcome) → ((v : Float) → SmallOutcome (say v)) → SmallOutcome (onValue x say)
@@ -62,22 +78,26 @@ small-on-second false y say h = h Reading.Nothing
 
 -- ---- a region
 
+small-cond : (b : Bool) (x y : Outcome) → SmallOutcome x → SmallOutcome y → SmallOutcome (cond b x y)
+small-cond true x y h k = h
+small-cond false x y h k = k
+
 small-verdict : (s : Sheet) (r : Rule) (at : CellCoordinate) (t : Test) → SmallOutcome (verdict s r at t)
-unfolding verdict
+unfolding verdict ratio
 small-verdict s r at (Test.CellIs op first second fill) =
     small-on-value _ _ (λ x. small-on-operand _ _ (λ a. small-on-second _ _ _ (λ b. small-filled-if _ _ fill)))
-small-verdict s r at (Test.ColorScale2 min max low high) = small-on-value _ _ (λ x. small-filled _ _)
-small-verdict s r at (Test.ColorScale3 min mid max low middle high) = small-on-value _ _ (λ x. small-filled _ _)
+small-verdict s r at (Test.ColorScale2 min max low high) = small-on-value _ _ (λ x. small-scaled _ 0 min max _ (omega arith))
+small-verdict s r at (Test.ColorScale3 min mid max low middle high) =
+    small-on-value _ _ (λ x.
+    small-cond (le x middle) (scaled (r .imported) 0 min mid (normalized x low middle))
+    (scaled (r .imported) 3 mid max (normalized x middle high)) (small-scaled _ 0 min mid _ (omega arith))
+    (small-scaled _ 3 mid max _ (omega arith)))
 small-verdict s r at (Test.DataBar color low high) = small-on-value _ _ (λ x. small-barred _ color _ (ratio-at-most x low high))
 small-verdict s r at (Test.TopBottom bottom bound fill) = small-on-value _ _ (λ x. small-filled-if _ _ fill)
 small-verdict s r at (Test.AboveAverage below bound fill) = small-on-value _ _ (λ x. small-filled-if _ _ fill)
 small-verdict s r at (Test.DuplicateValues unique fill) = small-filled-if _ _ fill
 small-verdict s r at (Test.Expression op left right fill) =
     small-on-operand _ _ (λ a. small-on-operand _ _ (λ b. small-filled-if _ _ fill))
-
-small-cond : (b : Bool) (x y : Outcome) → SmallOutcome x → SmallOutcome y → SmallOutcome (cond b x y)
-small-cond true x y h k = h
-small-cond false x y h k = k
 
 small-outcome : (s : Sheet) (r : Rule) (t : Test) (at : CellCoordinate) (state : RegionState) → SmallOutcome (outcome s r t at state)
 unfolding outcome

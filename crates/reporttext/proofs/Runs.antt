@@ -1,6 +1,6 @@
--- What a run leaves is small: regions below their number, rules below 64, kinds and ppms as painted, and at most as many rules deferred
--- and simplified as there are. Each bar comes with a mark at its region, so that what short numbers of regions spare the bars' lines
--- they spare the marks' lines too. Assumes nothing.
+-- What a run leaves is small: regions below their number, rules below 64, kinds, ppms and shapes as painted, and at most as many rules
+-- deferred and simplified as there are. Each bar comes with a mark at its region, so that what short numbers of regions spare the bars'
+-- lines they spare the marks' lines too. Assumes nothing.
 use Prim.Native.Nat.{ℕ, zero, suc, _+_, _≤_, _<_}
 use native.Mathlib.Omega.{arith}
 use mathlib.Core.Path.{_≡_, refl}

@@ -9,48 +9,51 @@ use mathlib.Core.List.{List, [], _∷_, _++_, map, append-nil}
 use lib.Dec.{eqb}
 use lib.ListN.{length, getD, replicate, length-append, length-map, length-replicate}
 use borrow.Author.Tests.{eqb-true, eqb-false, eq-eqb, ne-eqb}
+use Rattle.model.specs.declared.Rule.{Rule}
 use Rattle.model.specs.Run.{Mark, RegionState}
 use Rattle.model.specs.Answer.{Result, answer, answered, refused}
-use Rattle.model.specs.Job.{Job, Lengths, result}
+use Rattle.model.specs.Job.{Job, Lengths, rulesOf, result}
 use Rattle.model.specs.Columns.{column, written, columnsOf}
 use Rattle.laws.proofs.Results.{WholeJob, Refused, result-is}
-use Rattle.reporttext.specs.Report.{barLine, barLines, summaryText, marksText, barsText, reportOf}
+use Rattle.reporttext.specs.Report.{barLine, barLines, summaryText, marksText, barsText, shapedAt, reportOf}
+use Rattle.reporttext.specs.Reports.{jobReport}
 use Rattle.reporttext.specs.Shown.{markIn, marksIn, barIn, barsIn, resultIn}
 
 -- ---- the two forms of a report
 
-pub report-refused : (r : Result) → (r .summary .number ≡ 0 → ⊥) → reportOf r ≡ summaryText (r .summary)
+pub report-refused : (rules : List Rule) (r : Result) → (r .summary .number ≡ 0 → ⊥) → reportOf rules r ≡ summaryText (r .summary)
 unfolding reportOf
-report-refused r h = rw (ne-eqb (r .summary .number) 0 h, append-nil)
+report-refused rules r h = rw (ne-eqb (r .summary .number) 0 h, append-nil)
 
-pub report-answered : (r : Result) → r .summary .number ≡ 0
-    → reportOf r ≡ summaryText (r .summary) ++ (marksText (r .marks) ++ barsText (r .states))
+pub report-answered : (rules : List Rule) (r : Result) → r .summary .number ≡ 0
+    → reportOf rules r ≡ summaryText (r .summary) ++ (marksText (shapedAt rules) (r .marks) ++ barsText (r .states))
 unfolding reportOf
-report-answered r e = rw (eq-eqb (r .summary .number) 0 e)
+report-answered rules r e = rw (eq-eqb (r .summary .number) 0 e)
 
 -- ---- marks
 
-marks-shift : (a b c d e : ℕ) (ps qs xs ys zs : List ℕ) (i n : ℕ)
-    → marksIn (a ∷ ps) (b ∷ qs) (c ∷ xs) (d ∷ ys) (e ∷ zs) (suc i) n ≡ marksIn ps qs xs ys zs i n
+marks-shift : (a b c d e f : ℕ) (ps qs xs ys zs ws : List ℕ) (i n : ℕ)
+    → marksIn (a ∷ ps) (b ∷ qs) (c ∷ xs) (d ∷ ys) (e ∷ zs) (f ∷ ws) (suc i) n ≡ marksIn ps qs xs ys zs ws i n
 unfolding marksIn
-marks-shift a b c d e ps qs xs ys zs i zero = refl
-marks-shift a b c d e ps qs xs ys zs i (suc n) =
-    ap (λ (l : List Mark). markIn ps qs xs ys zs i ∷ l) (marks-shift a b c d e ps qs xs ys zs (suc i) n)
+marks-shift a b c d e f ps qs xs ys zs ws i zero = refl
+marks-shift a b c d e f ps qs xs ys zs ws i (suc n) =
+    ap (λ (l : List Mark). markIn ps qs xs ys zs ws i ∷ l) (marks-shift a b c d e f ps qs xs ys zs ws (suc i) n)
 
 -- the marks that were written are held, whatever stands behind them
-pub marks-held : (ms : List Mark) (ps qs xs ys zs : List ℕ)
+pub marks-held : (ms : List Mark) (ps qs xs ys zs ws : List ℕ)
     → marksIn (map (λ (m : Mark). m .region) ms ++ ps) (map (λ (m : Mark). m .rule) ms ++ qs)
     (map (λ (m : Mark). m .paint .kind) ms ++ xs) (map (λ (m : Mark). m .paint .colour) ms ++ ys)
-    (map (λ (m : Mark). m .paint .ppm) ms ++ zs) 0 (length ms)
+    (map (λ (m : Mark). m .paint .ppm) ms ++ zs) (map (λ (m : Mark). m .paint .shape) ms ++ ws) 0 (length ms)
     ≡ ms
 unfolding marksIn
-marks-held [] ps qs xs ys zs = refl
-marks-held (m ∷ ms) ps qs xs ys zs =
+marks-held [] ps qs xs ys zs ws = refl
+marks-held (m ∷ ms) ps qs xs ys zs ws =
     ap (λ (l : List Mark). m ∷ l) (
-    marks-shift (m .region) (m .rule) (m .paint .kind) (m .paint .colour) (m .paint .ppm)
+    marks-shift (m .region) (m .rule) (m .paint .kind) (m .paint .colour) (m .paint .ppm) (m .paint .shape)
     (map (λ (n : Mark). n .region) ms ++ ps) (map (λ (n : Mark). n .rule) ms ++ qs) (map (λ (n : Mark). n .paint .kind) ms ++ xs)
-    (map (λ (n : Mark). n .paint .colour) ms ++ ys) (map (λ (n : Mark). n .paint .ppm) ms ++ zs) 0 (length ms)
-    ∙ marks-held ms ps qs xs ys zs)
+    (map (λ (n : Mark). n .paint .colour) ms ++ ys) (map (λ (n : Mark). n .paint .ppm) ms ++ zs)
+    (map (λ (n : Mark). n .paint .shape) ms ++ ws) 0 (length ms)
+    ∙ marks-held ms ps qs xs ys zs ws)
 
 -- ---- bars
 
@@ -91,8 +94,9 @@ bars-held g k (s ∷ ss) qs =
 pub record Counted (r : Result) : Type 0 where
   pub marks : r .summary .number ≡ 0 → r .summary .marks ≡ length (r .marks)
 
-module _ (r : Result) (l : Lengths) (counted : Counted r) where
-  marks-same : r .summary .number ≡ 0 → marksText (resultIn (r .summary) (written r l) .marks) ≡ marksText (r .marks)
+module _ (rules : List Rule) (r : Result) (l : Lengths) (counted : Counted r) where
+  marks-same : r .summary .number ≡ 0
+      → marksText (shapedAt rules) (resultIn (r .summary) (written r l) .marks) ≡ marksText (shapedAt rules) (r .marks)
   unfolding resultIn written column
   marks-same e = rw (counted .marks e, marks-held)
 
@@ -101,19 +105,19 @@ module _ (r : Result) (l : Lengths) (counted : Counted r) where
   bars-same = rw (length-append, length-map, length-replicate, bars-held)
 
   -- what is printed from the columns of a result is its report
-  pub report-held : reportOf (resultIn (r .summary) (written r l)) ≡ reportOf r
+  pub report-held : reportOf rules (resultIn (r .summary) (written r l)) ≡ reportOf rules r
   unfolding resultIn
   report-held = go (eqb (r .summary .number) 0) refl
     where
-      go : (x : Bool) → eqb (r .summary .number) 0 ≡ x → reportOf (resultIn (r .summary) (written r l)) ≡ reportOf r
+      go : (x : Bool) → eqb (r .summary .number) 0 ≡ x → reportOf rules (resultIn (r .summary) (written r l)) ≡ reportOf rules r
       go true e =
           let h = eqb-true _ _ e in
-          report-answered (resultIn (r .summary) (written r l)) h
+          report-answered rules (resultIn (r .summary) (written r l)) h
           ∙ ap (λ (t : List ℕ). summaryText (r .summary) ++ t) (rw (marks-same h, bars-same))
-          ∙ sym (report-answered r h)
+          ∙ sym (report-answered rules r h)
       go false e =
           let h = eqb-false _ _ e in
-          report-refused (resultIn (r .summary) (written r l)) h ∙ sym (report-refused r h)
+          report-refused rules (resultIn (r .summary) (written r l)) h ∙ sym (report-refused rules r h)
 
 -- ---- of every job
 
@@ -134,6 +138,6 @@ module _ (j : Job) (limit : ℕ) (l : Lengths) where
       go (inr w) = counted-refused w
 
   -- what is printed from a job's answer and columns is the report of its result
-  pub job-report : reportOf (resultIn (result j limit l .summary) (columnsOf j limit l)) ≡ reportOf (result j limit l)
+  pub job-report : reportOf (rulesOf j) (resultIn (result j limit l .summary) (columnsOf j limit l)) ≡ jobReport j limit l
   unfolding columnsOf
-  job-report = report-held (result j limit l) l result-counted
+  job-report = report-held (rulesOf j) (result j limit l) l result-counted

@@ -1,3 +1,4 @@
 pub mod Report
+pub mod Reports
 pub mod Shown
 pub mod Longest

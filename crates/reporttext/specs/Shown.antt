@@ -12,8 +12,8 @@ use Rattle.model.specs.Job.{markSpace}
 use Rattle.model.specs.Columns.{Columns}
 use Rattle.laws.specs.Demands.{lengthsOf}
 
-abbrev pub paintOf : ℕ → ℕ → ℕ → Paint
-paintOf kind colour ppm = record { kind = kind; colour = colour; ppm = ppm }
+abbrev pub paintOf : ℕ → ℕ → ℕ → ℕ → Paint
+paintOf kind colour ppm shape = record { kind = kind; colour = colour; ppm = ppm; shape = shape }
 
 abbrev pub markOf : ℕ → ℕ → Paint → Mark
 markOf region rule paint = record { region = region; rule = rule; paint = paint }
@@ -21,9 +21,10 @@ markOf region rule paint = record { region = region; rule = rule; paint = paint 
 abbrev pub barOf : ℕ → ℕ → RegionState
 barOf rule ppm = record { stopped = false; barRule = rule; barPpm = ppm }
 
-module _ (regions rules kinds colours ppms : List ℕ) where
+module _ (regions rules kinds colours ppms shapes : List ℕ) where
   abbrev pub markIn : ℕ → Mark
-  markIn i = markOf (getD regions i 0) (getD rules i 0) (paintOf (getD kinds i 0) (getD colours i 0) (getD ppms i 0))
+  markIn i =
+      markOf (getD regions i 0) (getD rules i 0) (paintOf (getD kinds i 0) (getD colours i 0) (getD ppms i 0) (getD shapes i 0))
 
   -- n marks from i on
   unfoldable pub marksIn : ℕ → ℕ → List Mark
@@ -40,14 +41,15 @@ module _ (barRules barPpms : List ℕ) where
   barsIn i (suc n) = barIn i ∷ barsIn (suc i) n
 
 -- columns without scratch, of which a report shows nothing
-abbrev pub printed : List ℕ → List ℕ → List ℕ → List ℕ → List ℕ → List ℕ → List ℕ → Columns
-printed regions rules kinds colours ppms barRules barPpms =
+abbrev pub printed : List ℕ → List ℕ → List ℕ → List ℕ → List ℕ → List ℕ → List ℕ → List ℕ → Columns
+printed regions rules kinds colours ppms shapes barRules barPpms =
     record {
       regions = regions;
       rules = rules;
       kinds = kinds;
       colours = colours;
       ppms = ppms;
+      shapes = shapes;
       barRules = barRules;
       barPpms = barPpms;
       scratch = [];
@@ -57,7 +59,7 @@ unfoldable pub resultIn : Summary → Columns → Result
 resultIn s c =
     record {
       summary = s;
-      marks = marksIn (c .regions) (c .rules) (c .kinds) (c .colours) (c .ppms) 0 (s .marks);
+      marks = marksIn (c .regions) (c .rules) (c .kinds) (c .colours) (c .ppms) (c .shapes) 0 (s .marks);
       states = barsIn (c .barRules) (c .barPpms) 0 (length (c .barRules));
     }
 

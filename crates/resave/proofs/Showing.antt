@@ -11,6 +11,7 @@ use borrow.Author.Tests.{eq-eqb, ne-eqb}
 use Rattle.memory.specs.Memory.{page, pageLength}
 use Rattle.memory.proofs.Laws.{text-fits, length-page}
 use Rattle.model.specs.declared.Answer.{Answer}
+use Rattle.model.specs.declared.Rule.{Rule}
 use Rattle.model.specs.Answer.{Summary, refusal, answer, summary}
 use Rattle.model.specs.Columns.{Columns}
 use Rattle.model.specs.Job.{Job, markSpace}
@@ -41,15 +42,15 @@ refusal-marks (Answer.CoordinateOverflow count) h = refl
 refusal-marks (Answer.MarksExceedSpace count actual) h = refl
 
 abbrev pub noColumns : Columns
-noColumns = printed [] [] [] [] [] [] []
+noColumns = printed [] [] [] [] [] [] [] []
 
 pub refusal-held : (s : Summary) → Refusal s → holdsMarks s noColumns ≡ true
 unfolding holdsMarks markSpace
 refusal-held s r = rw (r .marks)
 
-pub refusal-shown : (s : Summary) → Refusal s → reportOf (resultIn s noColumns) ≡ summaryText s
+pub refusal-shown : (rules : List Rule) (s : Summary) → Refusal s → reportOf rules (resultIn s noColumns) ≡ summaryText s
 unfolding resultIn
-refusal-shown s r = report-refused (resultIn s noColumns) (r .number)
+refusal-shown rules s r = report-refused rules (resultIn s noColumns) (r .number)
 
 -- ---- one answer
 

@@ -1,5 +1,6 @@
 // A job text read and saved again, with all memory between them its own.
 use model::Answer;
+use model::Rules;
 use writer::Saved;
 ghost use mathlib.Core.Path.{_≡_};
 ghost use lib.ListN.{length};
@@ -11,7 +12,7 @@ ghost use Rattle.savedtext.specs.Resaved.{resaved};
 ghost use Rattle.resave.specs.Left.{Refusal, shown, Left};
 
 // The two lines of a refusal of the checks.
-fn report_refusal(answer: Answer, saved: &mut [u8]) -> usize
+fn report_refusal(answer: Answer, rules: Rules, saved: &mut [u8]) -> usize
     requires { ⌜ Refusal (summary answer) ⌝ }
     ensures length { λ r. ⌜ r ≡ pageLength (length (now (saved .entry))) (summaryText (summary answer)) ⌝ }
     ensures bytes { λ _. ⌜ now (saved .exit) ≡ page (length (now (saved .entry))) (summaryText (summary answer)) ⌝ }
@@ -19,6 +20,8 @@ fn report_refusal(answer: Answer, saved: &mut [u8]) -> usize
     let none = [0u32; 0];
     report::write_report(
         answer,
+        rules,
+        &none,
         &none,
         &none,
         &none,
@@ -31,14 +34,14 @@ fn report_refusal(answer: Answer, saved: &mut [u8]) -> usize
 }
 
 // The text stays where it was written; after a refusal its two lines take its place.
-fn report_saved(answer: Saved, saved: &mut [u8]) -> usize
+fn report_saved(answer: Saved, rules: Rules, saved: &mut [u8]) -> usize
     requires { ⌜ Left answer (now saved) ⌝ }
     ensures length { λ r. ⌜ r ≡ pageLength (length (now (saved .entry))) (shown answer (now (saved .entry))) ⌝ }
     ensures bytes { λ _. ⌜ now (saved .exit) ≡ page (length (now (saved .entry))) (shown answer (now (saved .entry))) ⌝ }
 {
     match answer {
         Saved::Written { count: _, length } => length,
-        Saved::Refused(refused) => report_refusal(refused, saved),
+        Saved::Refused(refused) => report_refusal(refused, rules, saved),
         Saved::TooLong { count, actual } => report::write_refusal(13, 0, count, actual, saved),
     }
 }
@@ -93,5 +96,5 @@ pub fn save_job(text: &[u8], saved: &mut [u8]) -> usize
         job.start,
         saved,
     );
-    report_saved(answer, saved)
+    report_saved(answer, job.rules, saved)
 }

@@ -20,7 +20,7 @@ use Rattle.model.specs.declared.Rule.{Rule}
 use Rattle.model.specs.declared.Test.{Test}
 use Rattle.model.specs.Sheet.{cellAt, sameCoordinate, inRange}
 use Rattle.model.specs.Readings.{numericAt, numericOf}
-use Rattle.model.specs.Ratio.{ratio}
+use Rattle.model.specs.Ratio.{normalized}
 use Rattle.model.specs.Rule as Rule
 use Rattle.model.specs.Run as Run
 use Rattle.model.specs.Run.{Run, RegionState, IndexedRule, untouched}
@@ -67,7 +67,7 @@ rules-are = refl
 -- ---- the rule that stops every region
 
 abbrev pub barred : Outcome
-barred = Outcome.Painted (record { kind = 3; colour = 0; ppm = 1_000_000 })
+barred = Outcome.Painted (record { kind = 3; colour = 0; ppm = 1_000_000; shape = 1 })
 
 cell-found : (row n i : ℕ) → row ≤ i → i < row + n → cellAt (cellsAt row n) (at i) ≡ some zeroCell
 unfolding cellAt sameCoordinate cellsAt
@@ -83,7 +83,7 @@ abbrev test : Test
 test = Test.DataBar black (ofBits binary64 0) (ofBits binary64 0)
 
 -- flat ends
-bar-of-zero : Rule.onValue (numericOf (some zeroCell)) (λ x. Rule.barred false black (ratio x (ofBits binary64 0) (ofBits binary64 0)))
+bar-of-zero : Rule.onValue (numericOf (some zeroCell)) (λ x. Rule.barred false black (normalized x (ofBits binary64 0) (ofBits binary64 0)))
     ≡ barred
 unfolding jobs
 bar-of-zero = refl

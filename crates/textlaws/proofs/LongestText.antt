@@ -9,7 +9,7 @@ use mathlib.Core.Option.{none}
 use lib.Dec.{lit≤}
 use lib.ListN.{length}
 use Rattle.model.specs.Answer.{limited}
-use Rattle.model.specs.Job.{spaceShort, markSpace, runOf, result}
+use Rattle.model.specs.Job.{spaceShort, markSpace, rulesOf, runOf, result}
 use Rattle.model.proofs.Computing.{jobs}
 use Rattle.grammar.specs.Parts.{timesOk}
 use Rattle.grammar.specs.Numbers.{sixteens}
@@ -18,10 +18,11 @@ use Rattle.jobtext.specs.Rules as Rules
 use Rattle.jobtext.specs.Text as Text
 use Rattle.jobtext.specs.Text.{job}
 use Rattle.jobtext.specs.Read.{ReadResult, Readable, maxText, over, read}
-use Rattle.jobtext.specs.Decided.{wholeSpace, decided}
+use Rattle.jobtext.specs.Decided.{wholeSpace, rulesRead, decided}
 use Rattle.jobtext.proofs.Computing.{laying}
 use Rattle.jobtext.proofs.Reading.{text-read}
 use Rattle.reporttext.specs.Report.{reportOf}
+use Rattle.reporttext.specs.Reports.{reportOn}
 use Rattle.reporttext.specs.Longest.{longest}
 use Rattle.reporttext.proofs.Computing.{lines}
 use Rattle.textlaws.proofs.LongestJob.{cellLines, regionsDown, repeat, longestJob, lent, lent-is, sheet-is, well-formed}
@@ -104,11 +105,12 @@ result-is : result lent (longestJob .limit) wholeSpace ≡ limited (longestJob .
 unfolding result runOf
 result-is = rw (well-formed, space-enough, sheet-is, run-is)
 
-report-length : length (reportOf (limited (longestJob .limit) (longestJob .start) (markSpace wholeSpace) longestRun)) ≡ longest
-unfolding laying jobs lines running
+report-length : length (reportOf (rulesOf lent) (limited (longestJob .limit) (longestJob .start) (markSpace wholeSpace) longestRun))
+    ≡ longest
+unfolding laying jobs lines running repeat
 report-length = refl
 
 -- the longest report is attained by a text that is read
-pub longest-attained : length (reportOf (decided (read longestText))) ≡ longest
-unfolding decided
+pub longest-attained : length (reportOn longestText) ≡ longest
+unfolding rulesRead decided
 longest-attained = rw (longest-read, lent-is, result-is) report-length

@@ -10,6 +10,7 @@ use lib.ListN.{length}
 use borrow.Author.Tests.{eq-eqb, ne-eqb}
 use Rattle.model.specs.declared.Paint.{Paint}
 use Rattle.model.specs.declared.Rgb.{Rgb}
+use Rattle.model.specs.declared.Rule.{Rule}
 use Rattle.model.specs.Ratio.{barCells, packed}
 use Rattle.model.specs.Run.{Mark, RegionState, hasBar}
 use Rattle.model.specs.Answer.{Summary, Result}
@@ -62,22 +63,24 @@ summary-feeds : (s : Summary) → lineFeeds (summaryText s) ≡ 2
 unfolding lineFeeds summaryText summaryNames summaryLine bytes
 summary-feeds s = simp (feeds-append, digits-feeds)
 
-paint-feeds : (p : Paint) → lineFeeds (paintText p) ≡ 1
+paint-feeds : (shaped : Bool) (p : Paint) → lineFeeds (paintText shaped p) ≡ 1
 unfolding lineFeeds paintText
-paint-feeds p =
+paint-feeds shaped p =
     let c = dash-feeds (hasColour p) 32 (Report.colour 32 (p .colour)) (colour-feeds 32 (p .colour)) in
     let b = dash-feeds (hasBar p) 32 (number 32 (p .ppm)) (number-feeds 32 (p .ppm)) in
-    let e = dash-feeds (hasBar p) 10 (number 10 (barCells (p .ppm))) (number-feeds 10 (barCells (p .ppm))) in
-    simp (feeds-append, digits-feeds, c, b, e)
+    let e = dash-feeds (hasBar p) 32 (number 32 (barCells (p .ppm))) (number-feeds 32 (barCells (p .ppm))) in
+    let s = dash-feeds shaped 10 (number 10 (p .shape)) (number-feeds 10 (p .shape)) in
+    simp (feeds-append, digits-feeds, c, b, e, s)
 
-mark-feeds : (m : Mark) → lineFeeds (markLine m) ≡ 1
-unfolding lineFeeds markLine
-mark-feeds m = simp (feeds-append, digits-feeds, paint-feeds)
+module _ (shaped : ℕ → Bool) where
+  mark-feeds : (m : Mark) → lineFeeds (markLine shaped m) ≡ 1
+  unfolding lineFeeds markLine
+  mark-feeds m = simp (feeds-append, digits-feeds, paint-feeds)
 
-marks-feeds : (ms : List Mark) → lineFeeds (timesText markLine ms) ≡ length ms
-unfolding lineFeeds timesText
-marks-feeds [] = refl
-marks-feeds (m ∷ ms) = simp (feeds-append, mark-feeds, marks-feeds ms) (omega arith)
+  marks-feeds : (ms : List Mark) → lineFeeds (timesText (markLine shaped) ms) ≡ length ms
+  unfolding lineFeeds timesText
+  marks-feeds [] = refl
+  marks-feeds (m ∷ ms) = simp (feeds-append, mark-feeds, marks-feeds ms) (omega arith)
 
 bars-feeds : (region : ℕ) (states : List RegionState) → lineFeeds (barLines region states) ≡ barCount states
 unfolding lineFeeds barLines barLine barCount
@@ -92,12 +95,12 @@ bars-feeds region (s ∷ states) = go (eqb (s .barRule) 0) (barLines (suc region
 
 -- ---- the report
 
-module _ (r : Result) where
-  pub refusal-lines : (r .summary .number ≡ 0 → ⊥) → lineFeeds (reportOf r) ≡ 2
+module _ (rules : List Rule) (r : Result) where
+  pub refusal-lines : (r .summary .number ≡ 0 → ⊥) → lineFeeds (reportOf rules r) ≡ 2
   unfolding lineFeeds reportOf
   refusal-lines h = rw (ne-eqb (r .summary .number) 0 h) (simp (feeds-append, summary-feeds))
 
-  pub answer-lines : r .summary .number ≡ 0 → lineFeeds (reportOf r) ≡ 4 + length (r .marks) + barCount (r .states)
+  pub answer-lines : r .summary .number ≡ 0 → lineFeeds (reportOf rules r) ≡ 4 + length (r .marks) + barCount (r .states)
   unfolding lineFeeds reportOf marksText markNames barsText barNames bytes
   answer-lines h =
       rw (eq-eqb (r .summary .number) 0 h) (simp (feeds-append, summary-feeds, marks-feeds, bars-feeds) (omega arith))

@@ -127,6 +127,7 @@ pub(crate) fn compare_columns(
     mark_kinds: &[u32],
     colours: &[u32],
     ppms: &[u32],
+    shapes: &[u32],
     bar_rules: &[u32],
     bar_ppms: &[u32],
     scratch: &[f64],
@@ -136,6 +137,7 @@ pub(crate) fn compare_columns(
     let st = compare_u32(s, st, b"mark_kinds", mark_kinds);
     let st = compare_u32(s, st, b"colours", colours);
     let st = compare_u32(s, st, b"ppms", ppms);
+    let st = compare_u32(s, st, b"shapes", shapes);
     let st = compare_u32(s, st, b"bar_rules", bar_rules);
     let st = compare_u32(s, st, b"bar_ppms", bar_ppms);
     compare_f64(s, st, b"scratch", scratch)

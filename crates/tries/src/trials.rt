@@ -1,4 +1,4 @@
-// The runs of a job: the limit, the lengths of the eight columns lent for writing, and what is expected.
+// The runs of a job: the limit, the lengths of the nine columns lent for writing, and what is expected.
 use crate::compare::compare_answer;
 use crate::compare::compare_columns;
 use crate::reader::State;
@@ -61,6 +61,7 @@ fn try_call(
     mark_kinds: &mut [u32],
     colours: &mut [u32],
     ppms: &mut [u32],
+    shapes: &mut [u32],
     bar_rules: &mut [u32],
     bar_ppms: &mut [u32],
     scratch: &mut [f64],
@@ -85,6 +86,7 @@ fn try_call(
         mark_kinds,
         colours,
         ppms,
+        shapes,
         bar_rules,
         bar_ppms,
         scratch,
@@ -97,13 +99,14 @@ fn try_call(
         mark_kinds,
         colours,
         ppms,
+        shapes,
         bar_rules,
         bar_ppms,
         scratch,
     )
 }
 
-// The second half of the columns that are lent.
+// The other five columns that are lent.
 fn lend_more(
     s: &[u8],
     st: State,
@@ -127,20 +130,18 @@ fn lend_more(
     colours: &mut [u32],
 ) -> State {
     let mut ppms = lent_u32();
+    let mut shapes = lent_u32();
     let mut bar_rules = lent_u32();
     let mut bar_ppms = lent_u32();
     let mut scratch = lent_f64();
-    let st = number(s, st, 1040);
-    let e = st.value as usize;
-    let st = number(s, st, 1040);
-    let f = st.value as usize;
-    let st = number(s, st, 1040);
-    let g = st.value as usize;
-    let st = number(s, st, 1040);
-    let h = st.value as usize;
+    let e = number(s, st, 1040);
+    let f = number(s, e, 1040);
+    let g = number(s, f, 1040);
+    let h = number(s, g, 1040);
+    let i = number(s, h, 1040);
     try_call(
         s,
-        st,
+        i,
         rows,
         cols,
         kinds,
@@ -159,14 +160,15 @@ fn lend_more(
         rule_indices,
         mark_kinds,
         colours,
-        &mut ppms[0..e],
-        &mut bar_rules[0..f],
-        &mut bar_ppms[0..g],
-        &mut scratch[0..h],
+        &mut ppms[0..e.value as usize],
+        &mut shapes[0..f.value as usize],
+        &mut bar_rules[0..g.value as usize],
+        &mut bar_ppms[0..h.value as usize],
+        &mut scratch[0..i.value as usize],
     )
 }
 
-// A run: the limit, and the first half of the columns that are lent.
+// A run: the limit, and the first four of the columns that are lent.
 fn try_run(
     s: &[u8],
     st: State,
@@ -190,17 +192,13 @@ fn try_run(
     let mut rule_indices = lent_u32();
     let mut mark_kinds = lent_u32();
     let mut colours = lent_u32();
-    let st = number(s, st, 1040);
-    let a = st.value as usize;
-    let st = number(s, st, 1040);
-    let b = st.value as usize;
-    let st = number(s, st, 1040);
-    let c = st.value as usize;
-    let st = number(s, st, 1040);
-    let d = st.value as usize;
+    let a = number(s, st, 1040);
+    let b = number(s, a, 1040);
+    let c = number(s, b, 1040);
+    let d = number(s, c, 1040);
     lend_more(
         s,
-        st,
+        d,
         rows,
         cols,
         kinds,
@@ -215,10 +213,10 @@ fn try_run(
         rules,
         limit,
         start,
-        &mut regions[0..a],
-        &mut rule_indices[0..b],
-        &mut mark_kinds[0..c],
-        &mut colours[0..d],
+        &mut regions[0..a.value as usize],
+        &mut rule_indices[0..b.value as usize],
+        &mut mark_kinds[0..c.value as usize],
+        &mut colours[0..d.value as usize],
     )
 }
 

@@ -32,29 +32,29 @@ not-refused : (c : Checked) → OneOf (0 ∷ []) (tagOf the-type c) → turnedBa
 not-refused Checked.Fine h = refl
 not-refused (Checked.Refused a) h = absurd (miss (0 ∷ []) 1 tt h)
 
-pub lent-same : {a b c d e f g a′ b′ c′ d′ e′ f′ g′ : List ℕ} {s s′ : List Float} → a ≡ a′ → b ≡ b′ → c ≡ c′ → d ≡ d′ → e ≡ e′ → f ≡ f′
-    → g ≡ g′ → s ≡ s′ → lent a b c d e f g s ≡ lent a′ b′ c′ d′ e′ f′ g′ s′
-lent-same pa pb pc pd pe pf pg ps = λ i. lent (pa i) (pb i) (pc i) (pd i) (pe i) (pf i) (pg i) (ps i)
+pub lent-same : {a b c d e f g h a′ b′ c′ d′ e′ f′ g′ h′ : List ℕ} {s s′ : List Float} → a ≡ a′ → b ≡ b′ → c ≡ c′ → d ≡ d′ → e ≡ e′
+    → f ≡ f′ → g ≡ g′ → h ≡ h′ → s ≡ s′ → lent a b c d e f g h s ≡ lent a′ b′ c′ d′ e′ f′ g′ h′ s′
+lent-same pa pb pc pd pe pf pg ph ps = λ i. lent (pa i) (pb i) (pc i) (pd i) (pe i) (pf i) (pg i) (ph i) (ps i)
 
 -- columns that are 0 from end to end
-pub lent-zeros : (l : Lengths) {a b c d e f g : List ℕ} {s : List Float} → a ≡ replicate (l .regions) 0 → b ≡ replicate (l .rules) 0
-    → c ≡ replicate (l .kinds) 0 → d ≡ replicate (l .colours) 0 → e ≡ replicate (l .ppms) 0 → f ≡ replicate (l .barRules) 0
-    → g ≡ replicate (l .barPpms) 0 → s ≡ replicate (l .scratch) zeroF → lent a b c d e f g s ≡ zeros l
+pub lent-zeros : (l : Lengths) {a b c d e f g h : List ℕ} {s : List Float} → a ≡ replicate (l .regions) 0 → b ≡ replicate (l .rules) 0
+    → c ≡ replicate (l .kinds) 0 → d ≡ replicate (l .colours) 0 → e ≡ replicate (l .ppms) 0 → f ≡ replicate (l .shapes) 0
+    → g ≡ replicate (l .barRules) 0 → h ≡ replicate (l .barPpms) 0 → s ≡ replicate (l .scratch) zeroF → lent a b c d e f g h s ≡ zeros l
 unfolding zeros
-lent-zeros l pa pb pc pd pe pf pg ps = lent-same pa pb pc pd pe pf pg ps
+lent-zeros l pa pb pc pd pe pf pg ph ps = lent-same pa pb pc pd pe pf pg ph ps
 
-pub marks-same : {a b c d e a′ b′ c′ d′ e′ : List ℕ} → a ≡ a′ → b ≡ b′ → c ≡ c′ → d ≡ d′ → e ≡ e′
-    → markColumns a b c d e ≡ markColumns a′ b′ c′ d′ e′
-marks-same pa pb pc pd pe = λ i. markColumns (pa i) (pb i) (pc i) (pd i) (pe i)
+pub marks-same : {a b c d e f a′ b′ c′ d′ e′ f′ : List ℕ} → a ≡ a′ → b ≡ b′ → c ≡ c′ → d ≡ d′ → e ≡ e′ → f ≡ f′
+    → markColumns a b c d e f ≡ markColumns a′ b′ c′ d′ e′ f′
+marks-same pa pb pc pd pe pf = λ i. markColumns (pa i) (pb i) (pc i) (pd i) (pe i) (pf i)
 
 pub bars-same : {a b a′ b′ : List ℕ} → a ≡ a′ → b ≡ b′ → barColumns a b ≡ barColumns a′ b′
 bars-same pa pb = λ i. barColumns (pa i) (pb i)
 
 -- the shortest of the mark columns
-pub space-as : (l : Lengths) {a b c d e s : ℕ} → a ≡ l .regions → b ≡ l .rules → c ≡ l .kinds → d ≡ l .colours → e ≡ l .ppms
-    → s ≡ min a (min b (min c (min d e))) → s ≡ markSpace l
+pub space-as : (l : Lengths) {a b c d e f s : ℕ} → a ≡ l .regions → b ≡ l .rules → c ≡ l .kinds → d ≡ l .colours → e ≡ l .ppms
+    → f ≡ l .shapes → s ≡ min a (min b (min c (min d (min e f)))) → s ≡ markSpace l
 unfolding markSpace
-space-as l ha hb hc hd he hs = rw (hs, ha, hb, hc, hd, he)
+space-as l ha hb hc hd he hf hs = rw (hs, ha, hb, hc, hd, he, hf)
 
 module _ (j : Job) (limit : ℕ) (l : Lengths) where
   -- the call has this answer and these columns

@@ -5,7 +5,7 @@ use mathlib.Core.Path.{_≡_, refl, sym, ap}
 use mathlib.Core.Bool.{Bool, true, false, cond, not, true≢false}
 use mathlib.Core.List.{List, [], _∷_}
 use lib.Dec.{eqb}
-use lib.Ieee.{Float}
+use lib.Ieee.{Float, le}
 use lib.ListN.{length, getD}
 use Rattle.model.specs.declared.CellCoordinate.{CellCoordinate}
 use Rattle.model.specs.declared.Outcome.{Outcome}
@@ -14,7 +14,7 @@ use Rattle.model.specs.declared.Rgb.{Rgb}
 use Rattle.model.specs.declared.Rule.{Rule}
 use Rattle.model.specs.declared.Test.{Test}
 use Rattle.model.specs.Sheet.{Sheet, inRange}
-use Rattle.model.specs.Rule.{filled, barred, filledIf, onValue, onOperand, onSecond, verdict}
+use Rattle.model.specs.Rule.{filled, scaled, barred, filledIf, onValue, onOperand, onSecond, verdict}
 use Rattle.model.specs.Run.{outcome, asked, isUnresolved}
 use Rattle.cells.specs.Columns.{coordinateAt}
 use Rattle.hits.specs.Hits.{unresolvedFrom, liveFrom}
@@ -31,14 +31,19 @@ isStopped (Outcome.Painted p) = false
 abbrev Said : Outcome → Type 0
 Said o = isStopped o ≡ false
 
-filled-said : (imported : Bool) (fill : Rgb) → Said (filled imported fill)
+filled-said : (imported : Bool) (shape : ℕ) (fill : Rgb) → Said (filled imported shape fill)
 unfolding filled
-filled-said true fill = refl
-filled-said false fill = refl
+filled-said true shape fill = refl
+filled-said false shape fill = refl
+
+-- whichever half of a scale is used
+halves-said : (lower imported : Bool) (m n : ℕ) (c d : Rgb) → Said (cond lower (filled imported m c) (filled imported n d))
+halves-said true imported m n c d = filled-said imported m c
+halves-said false imported m n c d = filled-said imported n d
 
 filled-if-said : (met imported : Bool) (fill : Rgb) → Said (filledIf met imported fill)
 unfolding filledIf
-filled-if-said true imported fill = filled-said imported fill
+filled-if-said true imported fill = filled-said imported 0 fill
 filled-if-said false imported fill = refl
 
 value-said : (x : Reading) (say : Float → Outcome) → ((v : Float) → Said (say v)) → Said (onValue x say)
@@ -58,11 +63,11 @@ second-said true Reading.Nothing say h = refl
 second-said false y say h = h Reading.Nothing
 
 verdict-said : (s : Sheet) (r : Rule) (at : CellCoordinate) (t : Test) → Said (verdict s r at t)
-unfolding verdict barred
+unfolding verdict scaled barred
 verdict-said s r at (Test.CellIs op first second fill) =
     value-said _ _ (λ x. operand-said _ _ (λ a. second-said _ _ _ (λ b. filled-if-said _ _ fill)))
-verdict-said s r at (Test.ColorScale2 min max low high) = value-said _ _ (λ x. filled-said _ _)
-verdict-said s r at (Test.ColorScale3 min mid max low middle high) = value-said _ _ (λ x. filled-said _ _)
+verdict-said s r at (Test.ColorScale2 min max low high) = value-said _ _ (λ x. filled-said _ _ _)
+verdict-said s r at (Test.ColorScale3 min mid max low middle high) = value-said _ _ (λ x. halves-said (le x middle) _ _ _ _ _)
 verdict-said s r at (Test.DataBar color low high) = value-said _ _ (λ x. refl)
 verdict-said s r at (Test.TopBottom bottom bound fill) = value-said _ _ (λ x. filled-if-said _ _ fill)
 verdict-said s r at (Test.AboveAverage below bound fill) = value-said _ _ (λ x. filled-if-said _ _ fill)

@@ -13,7 +13,7 @@ use Rattle.model.specs.declared.Test.{Test}
 use Rattle.model.specs.Sheet.{Sheet}
 use Rattle.model.specs.Run.{marksFrom}
 use Rattle.hits.specs.Hits.{hitsFrom}
-use Rattle.hits.specs.Painted.{kindBy, colourBy, ppmBy}
+use Rattle.hits.specs.Painted.{kindBy, colourBy, ppmBy, shapeBy}
 use Rattle.turns.specs.Step.{outcomesFrom}
 use Rattle.turns.specs.Emit.{markColumns, putMark, putMarks, hitMark}
 
@@ -50,10 +50,11 @@ hits-within i (Outcome.Painted p ∷ os) zero h = omega arith
 hits-within i (Outcome.Painted p ∷ os) (suc j) h = omega (arith, hits-within (suc i) os j (omega arith))
 
 -- each column by itself
-pub put-hits : (t : Test) (imported : Bool) (values : List Float) (rule : ℕ) (a b c d e : List ℕ) (n : ℕ) (hs : List ℕ)
-    → putMarks (markColumns a b c d e) n (map (hitMark t imported values rule) hs)
+pub put-hits : (t : Test) (imported : Bool) (values : List Float) (rule : ℕ) (a b c d e f : List ℕ) (n : ℕ) (hs : List ℕ)
+    → putMarks (markColumns a b c d e f) n (map (hitMark t imported values rule) hs)
     ≡ markColumns (sets a n hs) (sets b n (replicate (length hs) rule)) (sets c n (replicate (length hs) (kindBy t imported)))
     (sets d n (map (λ h. colourBy t imported (getD values h nan)) hs)) (sets e n (map (λ h. ppmBy t (getD values h nan)) hs))
+    (sets f n (map (λ h. shapeBy t (getD values h nan)) hs))
 unfolding putMarks putMark
-put-hits t imported values rule a b c d e n [] = refl
-put-hits t imported values rule a b c d e n (h ∷ hs) = put-hits t imported values rule _ _ _ _ _ (suc n) hs
+put-hits t imported values rule a b c d e f n [] = refl
+put-hits t imported values rule a b c d e f n (h ∷ hs) = put-hits t imported values rule _ _ _ _ _ _ (suc n) hs

@@ -33,14 +33,14 @@ put-marks-append c n (m ∷ xs) ys =
     put-marks-append (putMark c n m) (suc n) xs ys ∙ rw onward
 
 -- each column by itself
-pub put-marks-sets : (regions rules kinds colours ppms : List ℕ) (n : ℕ) (ms : List Mark)
-    → putMarks (markColumns regions rules kinds colours ppms) n ms
+pub put-marks-sets : (regions rules kinds colours ppms shapes : List ℕ) (n : ℕ) (ms : List Mark)
+    → putMarks (markColumns regions rules kinds colours ppms shapes) n ms
     ≡ markColumns (sets regions n (map (λ (m : Mark). m .region) ms)) (sets rules n (map (λ (m : Mark). m .rule) ms))
     (sets kinds n (map (λ (m : Mark). m .paint .kind) ms)) (sets colours n (map (λ (m : Mark). m .paint .colour) ms))
-    (sets ppms n (map (λ (m : Mark). m .paint .ppm) ms))
+    (sets ppms n (map (λ (m : Mark). m .paint .ppm) ms)) (sets shapes n (map (λ (m : Mark). m .paint .shape) ms))
 unfolding putMarks putMark
-put-marks-sets regions rules kinds colours ppms n [] = refl
-put-marks-sets regions rules kinds colours ppms n (m ∷ ms) = put-marks-sets _ _ _ _ _ (suc n) ms
+put-marks-sets regions rules kinds colours ppms shapes n [] = refl
+put-marks-sets regions rules kinds colours ppms shapes n (m ∷ ms) = put-marks-sets _ _ _ _ _ _ (suc n) ms
 
 drop-zeros : (k n : ℕ) → drop {A = ℕ} k (replicate n 0) ≡ replicate (n - k) 0
 drop-zeros zero n = rw sub-zero
@@ -56,16 +56,19 @@ sets-zeros n field entries h =
     omega (arith, length-map entries field, length-replicate {A = ℕ} n 0) in
     sets-eq (map field entries) (replicate n 0) 0 fits ∙ rw (zero-add, length-map, drop-zeros)
 
-pub put-marks-zeros : (a b c d e : ℕ) (ms : List Mark) → length ms ≤ a → length ms ≤ b → length ms ≤ c → length ms ≤ d → length ms ≤ e
-    → putMarks (markColumns (replicate a 0) (replicate b 0) (replicate c 0) (replicate d 0) (replicate e 0)) 0 ms
+pub put-marks-zeros : (a b c d e f : ℕ) (ms : List Mark) → length ms ≤ a → length ms ≤ b → length ms ≤ c → length ms ≤ d → length ms ≤ e
+    → length ms ≤ f
+    → putMarks (markColumns (replicate a 0) (replicate b 0) (replicate c 0) (replicate d 0) (replicate e 0) (replicate f 0)) 0 ms
     ≡ markColumns (column a (λ (m : Mark). m .region) ms) (column b (λ (m : Mark). m .rule) ms) (column c (λ (m : Mark). m .paint .kind) ms)
     (column d (λ (m : Mark). m .paint .colour) ms) (column e (λ (m : Mark). m .paint .ppm) ms)
-put-marks-zeros a b c d e ms ha hb hc hd he =
-    put-marks-sets (replicate a 0) (replicate b 0) (replicate c 0) (replicate d 0) (replicate e 0) 0 ms
+    (column f (λ (m : Mark). m .paint .shape) ms)
+put-marks-zeros a b c d e f ms ha hb hc hd he hf =
+    put-marks-sets (replicate a 0) (replicate b 0) (replicate c 0) (replicate d 0) (replicate e 0) (replicate f 0) 0 ms
     ∙ (λ i. record {
       regions = sets-zeros a (λ (m : Mark). m .region) ms ha i;
       rules = sets-zeros b (λ (m : Mark). m .rule) ms hb i;
       kinds = sets-zeros c (λ (m : Mark). m .paint .kind) ms hc i;
       colours = sets-zeros d (λ (m : Mark). m .paint .colour) ms hd i;
       ppms = sets-zeros e (λ (m : Mark). m .paint .ppm) ms he i;
+      shapes = sets-zeros f (λ (m : Mark). m .paint .shape) ms hf i;
     })

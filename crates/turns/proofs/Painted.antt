@@ -4,26 +4,28 @@ use Prim.Native.Nat.{ℕ, zero, suc, _+_, _≤_, _<_}
 use mathlib.Core.Path.{_≡_, refl}
 use mathlib.Core.Bool.{Bool, true, false, cond, not, _&&_}
 use mathlib.Core.List.{List, [], _∷_, map}
+use native.Mathlib.Nat.{zero-add}
 use native.Mathlib.Omega.{arith}
 use lib.Dec.{leb, eqb}
-use lib.Ieee.{Float, nan, eq}
+use lib.Ieee.{Float, nan, le, eq}
 use lib.ListN.{length, getD, set}
+use Rattle.model.specs.declared.Normalized.{Normalized}
 use Rattle.model.specs.declared.Outcome.{Outcome}
 use Rattle.model.specs.declared.Paint.{Paint}
 use Rattle.model.specs.declared.Reading.{Reading}
 use Rattle.model.specs.declared.Rgb.{Rgb}
 use Rattle.model.specs.declared.Rule.{Rule}
 use Rattle.model.specs.declared.Test.{Test}
-use Rattle.model.specs.Ratio.{packed}
+use Rattle.model.specs.Ratio.{ratio, shapeNumber, interpolateRgb, packed}
 use Rattle.model.specs.Sheet.{Sheet, inRange}
-use Rattle.model.specs.Rule.{filled, barred, filledIf, onValue, onOperand, onSecond, verdict}
+use Rattle.model.specs.Rule.{filled, scaled, barred, filledIf, onValue, onOperand, onSecond, verdict}
 use Rattle.model.specs.Run.{outcome, hasBar, marksFrom}
 use Rattle.cells.specs.Columns.{coordinateAt}
 use Rattle.plans.specs.Plans.{isBarTest}
 use Rattle.hits.specs.Verdict.{cellIs, byNumber, duplicateValues, expression, verdictOn}
 use Rattle.hits.specs.Said.{readingOf}
 use Rattle.hits.specs.Hits.{Known, verdictBy, hitsFrom}
-use Rattle.hits.specs.Painted.{kindBy, colourBy, ppmBy, paintBy}
+use Rattle.hits.specs.Painted.{kindBy, colourBy, ppmBy, shapeBy, paintBy}
 use Rattle.turns.specs.Step.{flagged, outcomesFrom}
 use Rattle.turns.specs.Emit.{BarColumns, barColumns, drawBar, drawBars, drawHit, drawHits, hitMark, stopAt, stops, stopHits, Paints}
 use Rattle.turns.specs.Knowing.{Knows}
@@ -41,18 +43,32 @@ passed-only q e = cc
 unresolved-only : {p : Paint} → Only p Outcome.Unresolved
 unresolved-only q e = cc
 
-abbrev fillOf : Bool → Rgb → Paint
-fillOf imported fill = record { kind = cond imported 2 1; colour = cond imported 0 (packed fill); ppm = 0 }
+abbrev fillOf : Bool → ℕ → Rgb → Paint
+fillOf imported shape fill = record { kind = cond imported 2 1; colour = cond imported 0 (packed fill); ppm = 0; shape = shape }
 
-fill-only : (imported : Bool) (fill : Rgb) → Only (fillOf imported fill) (filled imported fill)
+fill-only : (imported : Bool) (shape : ℕ) (fill : Rgb) → Only (fillOf imported shape fill) (filled imported shape fill)
 unfolding filled
-fill-only true fill q e = cc
-fill-only false fill q e = cc
+fill-only true shape fill q e = cc
+fill-only false shape fill q e = cc
 
-fill-if-only : (met imported : Bool) (fill : Rgb) → Only (fillOf imported fill) (filledIf met imported fill)
+fill-if-only : (met imported : Bool) (fill : Rgb) → Only (fillOf imported 0 fill) (filledIf met imported fill)
 unfolding filledIf
-fill-if-only true imported fill = fill-only imported fill
+fill-if-only true imported fill = fill-only imported 0 fill
 fill-if-only false imported fill = passed-only
+
+scale-only : (imported : Bool) (start end : Rgb) (n : Normalized)
+    → Only (fillOf imported (shapeNumber (n .shape)) (interpolateRgb start end (n .ppm))) (scaled imported 0 start end n)
+unfolding scaled
+scale-only imported start end n = rw zero-add (fill-only imported _ _)
+
+-- whichever half of a scale is used
+halves-only : (lower imported : Bool) (first middle last : Rgb) (m n : Normalized)
+    → Only (fillOf imported (cond lower (shapeNumber (m .shape)) (3 + shapeNumber (n .shape)))
+    (cond lower (interpolateRgb first middle (m .ppm)) (interpolateRgb middle last (n .ppm))))
+    (cond lower (scaled imported 0 first middle m) (scaled imported 3 middle last n))
+unfolding scaled
+halves-only true imported first middle last m n = scale-only imported first middle m
+halves-only false imported first middle last m n = fill-only imported _ _
 
 value-only : {p : Paint} (x : Float) (say : Float → Outcome) → Only p (say x) → Only p (onValue (readingOf x) say)
 unfolding readingOf onValue
@@ -76,11 +92,11 @@ second-only false v say only = only Reading.Nothing
 
 verdict-only : (t : Test) (imported : Bool) (x : Float) (a b : Reading) (found : ℕ)
     → Only (paintBy t imported x) (verdictOn t imported (readingOf x) a b found)
-unfolding verdictOn cellIs byNumber duplicateValues expression barred kindBy colourBy ppmBy
+unfolding verdictOn cellIs byNumber duplicateValues expression barred kindBy colourBy ppmBy shapeBy ratio
 verdict-only (Test.CellIs op first second fill) imported x a b found =
     value-only x _ (operand-only a _ (λ y. second-only _ b _ (λ z. fill-if-only _ imported fill)))
-verdict-only (Test.ColorScale2 min max low high) imported x a b found = value-only x _ (fill-only imported _)
-verdict-only (Test.ColorScale3 min mid max low middle high) imported x a b found = value-only x _ (fill-only imported _)
+verdict-only (Test.ColorScale2 min max low high) imported x a b found = value-only x _ (scale-only imported _ _ _)
+verdict-only (Test.ColorScale3 min mid max low middle high) imported x a b found = value-only x _ (halves-only (le x middle) imported _ _ _ _ _)
 verdict-only (Test.DataBar color low high) imported x a b found = value-only x _ (λ q e. cc)
 verdict-only (Test.TopBottom bottom bound fill) imported x a b found = value-only x _ (fill-if-only _ imported fill)
 verdict-only (Test.AboveAverage below bound fill) imported x a b found = value-only x _ (fill-if-only _ imported fill)

@@ -35,6 +35,7 @@ pub record Kept (m₀ m : MarkColumns) (b₀ b : BarColumns) (s₀ s : List Floa
   pub kinds : length (m .kinds) ≡ length (m₀ .kinds)
   pub colours : length (m .colours) ≡ length (m₀ .colours)
   pub ppms : length (m .ppms) ≡ length (m₀ .ppms)
+  pub shapes : length (m .shapes) ≡ length (m₀ .shapes)
   pub barRules : length (b .rules) ≡ length (b₀ .rules)
   pub barPpms : length (b .ppms) ≡ length (b₀ .ppms)
   pub scratch : length s ≡ length s₀

@@ -57,7 +57,7 @@ settled-by space r ran (Charged.CoordinateOverflow c) h = refl
 abbrev pub keptBy : Bool → Lengths → Left → Columns
 keptBy b l e =
     lent (keptIf b (e .marks .regions)) (keptIf b (e .marks .rules)) (keptIf b (e .marks .kinds)) (keptIf b (e .marks .colours))
-    (keptIf b (e .marks .ppms)) (keptIf b (e .bars .rules)) (keptIf b (e .bars .ppms)) (replicate (l .scratch) zeroF)
+    (keptIf b (e .marks .ppms)) (keptIf b (e .marks .shapes)) (keptIf b (e .bars .rules)) (keptIf b (e .bars .ppms)) (replicate (l .scratch) zeroF)
 
 -- the columns keep their lengths
 pub record Long (l : Lengths) (e : Left) : Type 0 where
@@ -66,6 +66,7 @@ pub record Long (l : Lengths) (e : Left) : Type 0 where
   pub kinds : length (e .marks .kinds) ≡ l .kinds
   pub colours : length (e .marks .colours) ≡ l .colours
   pub ppms : length (e .marks .ppms) ≡ l .ppms
+  pub shapes : length (e .marks .shapes) ≡ l .shapes
   pub barRules : length (e .bars .rules) ≡ l .barRules
   pub barPpms : length (e .bars .ppms) ≡ l .barPpms
 
@@ -78,6 +79,7 @@ kept-none l e h = λ i.
       kinds = replicate (h .kinds i) 0;
       colours = replicate (h .colours i) 0;
       ppms = replicate (h .ppms i) 0;
+      shapes = replicate (h .shapes i) 0;
       barRules = replicate (h .barRules i) 0;
       barPpms = replicate (h .barPpms i) 0;
       scratch = replicate (l .scratch) zeroF;
@@ -87,7 +89,7 @@ kept-none l e h = λ i.
 abbrev pub clearMarks : Lengths → MarkColumns
 clearMarks l =
     markColumns (replicate (l .regions) 0) (replicate (l .rules) 0) (replicate (l .kinds) 0) (replicate (l .colours) 0)
-    (replicate (l .ppms) 0)
+    (replicate (l .ppms) 0) (replicate (l .shapes) 0)
 
 abbrev pub clearBars : Lengths → BarColumns
 clearBars l = barColumns (replicate (l .barRules) 0) (replicate (l .barPpms) 0)
@@ -102,8 +104,8 @@ kept-whole : (l : Lengths) (e : Left) (r : Run) (n : ℕ) → Filled l r e → l
 unfolding written answered markSpace
 kept-whole l e r n f h =
     let m =
-    f .marks ∙ put-marks-zeros (l .regions) (l .rules) (l .kinds) (l .colours) (l .ppms) (r .marks)
-    (omega arith) (omega arith) (omega arith) (omega arith) (omega arith)
+    f .marks ∙ put-marks-zeros (l .regions) (l .rules) (l .kinds) (l .colours) (l .ppms) (l .shapes) (r .marks)
+    (omega arith) (omega arith) (omega arith) (omega arith) (omega arith) (omega arith)
     in
     λ i.
     record {
@@ -112,6 +114,7 @@ kept-whole l e r n f h =
       kinds = m i .kinds;
       colours = m i .colours;
       ppms = m i .ppms;
+      shapes = m i .shapes;
       barRules = f .bars i .rules;
       barPpms = f .bars i .ppms;
       scratch = replicate (l .scratch) zeroF;

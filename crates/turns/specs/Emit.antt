@@ -17,17 +17,18 @@ use Rattle.hits.specs.Painted.{ppmBy, paintBy}
 
 -- ---- the marks
 
--- the five columns of the marks
+-- the six columns of the marks
 pub record MarkColumns : Type 0 where
   pub regions : List ℕ
   pub rules : List ℕ
   pub kinds : List ℕ
   pub colours : List ℕ
   pub ppms : List ℕ
+  pub shapes : List ℕ
 
-abbrev pub markColumns : List ℕ → List ℕ → List ℕ → List ℕ → List ℕ → MarkColumns
-markColumns regions rules kinds colours ppms =
-    record { regions = regions; rules = rules; kinds = kinds; colours = colours; ppms = ppms }
+abbrev pub markColumns : List ℕ → List ℕ → List ℕ → List ℕ → List ℕ → List ℕ → MarkColumns
+markColumns regions rules kinds colours ppms shapes =
+    record { regions = regions; rules = rules; kinds = kinds; colours = colours; ppms = ppms; shapes = shapes }
 
 abbrev pub markAt : ℕ → ℕ → Paint → Mark
 markAt region rule paint = record { region = region; rule = rule; paint = paint }
@@ -41,6 +42,7 @@ putMark c n m =
       kinds = set (c .kinds) n (m .paint .kind);
       colours = set (c .colours) n (m .paint .colour);
       ppms = set (c .ppms) n (m .paint .ppm);
+      shapes = set (c .shapes) n (m .paint .shape);
     }
 
 -- the mark of a region that a test paints, by the numbers of the regions' cells

@@ -11,25 +11,26 @@ use Rattle.settling.specs.declared.Ran.{Ran}
 use Rattle.settling.specs.Settling.{settledAs}
 
 -- the shortest of the mark columns
-abbrev pub shortestOf : ℕ → ℕ → ℕ → ℕ → ℕ → ℕ
-shortestOf a b c d e = min a (min b (min c (min d e)))
+abbrev pub shortestOf : ℕ → ℕ → ℕ → ℕ → ℕ → ℕ → ℕ
+shortestOf a b c d e f = min a (min b (min c (min d (min e f))))
 
 -- the answer with the space of these mark columns
-abbrev pub settledOn : List ℕ → List ℕ → List ℕ → List ℕ → List ℕ → Ran → Summary
-settledOn a b c d e ran = settledAs (shortestOf (length a) (length b) (length c) (length d) (length e)) ran
+abbrev pub settledOn : List ℕ → List ℕ → List ℕ → List ℕ → List ℕ → List ℕ → Ran → Summary
+settledOn a b c d e f ran = settledAs (shortestOf (length a) (length b) (length c) (length d) (length e) (length f)) ran
 
 -- a column as it is, or zeros
 abbrev pub keptIf : Bool → List ℕ → List ℕ
 keptIf keep l = cond keep l (replicate (length l) 0)
 
-abbrev pub lent : List ℕ → List ℕ → List ℕ → List ℕ → List ℕ → List ℕ → List ℕ → List Float → Columns
-lent regions rules kinds colours ppms barRules barPpms scratch =
+abbrev pub lent : List ℕ → List ℕ → List ℕ → List ℕ → List ℕ → List ℕ → List ℕ → List ℕ → List Float → Columns
+lent regions rules kinds colours ppms shapes barRules barPpms scratch =
     record {
       regions = regions;
       rules = rules;
       kinds = kinds;
       colours = colours;
       ppms = ppms;
+      shapes = shapes;
       barRules = barRules;
       barPpms = barPpms;
       scratch = scratch;

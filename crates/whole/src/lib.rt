@@ -2,14 +2,12 @@
 ghost use mathlib.Core.Path.{_≡_};
 ghost use lib.ListN.{length};
 ghost use Rattle.memory.specs.Memory.{page, pageLength};
-ghost use Rattle.reporttext.specs.Report.{reportOf};
-ghost use Rattle.jobtext.specs.Read.{read};
-ghost use Rattle.jobtext.specs.Decided.{decided};
+ghost use Rattle.reporttext.specs.Reports.{reportOn};
 
 // The report on a job text: its length, 0 where it is longer than the lent bytes.
 pub fn whole_job(text: &[u8], report: &mut [u8]) -> usize
-    ensures length { λ r. ⌜ r ≡ pageLength (length (now (report .entry))) (reportOf (decided (read (now (text .entry))))) ⌝ }
-    ensures bytes { λ _. ⌜ now (report .exit) ≡ page (length (now (report .entry))) (reportOf (decided (read (now (text .entry))))) ⌝ }
+    ensures length { λ r. ⌜ r ≡ pageLength (length (now (report .entry))) (reportOn (now (text .entry))) ⌝ }
+    ensures bytes { λ _. ⌜ now (report .exit) ≡ page (length (now (report .entry))) (reportOn (now (text .entry))) ⌝ }
 {
     let mut rows = [0u32; 1024];
     let mut cols = [0u16; 1024];

@@ -10,7 +10,7 @@ pub struct Refusal {
     pub actual: u64,
 }
 
-/// `colour` and `ppm` are 0 where the kind has none.
+/// `colour` and `ppm` are 0 where the kind has none. `shape` is there for the marks of scales and bars alone.
 #[derive(Debug, Clone, Copy, PartialEq, Eq)]
 pub struct Mark {
     pub region: usize,
@@ -18,6 +18,7 @@ pub struct Mark {
     pub kind: u32,
     pub colour: Rgb24,
     pub ppm: u32,
+    pub shape: Option<u32>,
 }
 
 #[derive(Debug, Clone, Copy, PartialEq, Eq)]

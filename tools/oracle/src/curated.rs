@@ -67,8 +67,8 @@ mod tests {
     #[test]
     fn worked_report() {
         let list = curated();
-        let expected = "number place count actual marks deferred simplified\n0 0 11 0 3 0 1\nregion rule kind colour ppm cells\n\
-            2 1 1 ff0000 - -\n0 0 3 00ff00 0 0\n1 0 3 00ff00 500000 20\nregion barrule ppm\n0 0 0\n1 0 500000\n";
+        let expected = "number place count actual marks deferred simplified\n0 0 11 0 3 0 1\nregion rule kind colour ppm cells shape\n\
+            2 1 1 ff0000 - - -\n0 0 3 00ff00 0 0 0\n1 0 3 00ff00 500000 20 0\nregion barrule ppm\n0 0 0\n1 0 500000\n";
         for limit in ["100", "11"] {
             let job = list.iter().find(|job| job.name == format!("worked job at limit {limit}")).unwrap();
             assert_eq!(String::from_utf8(report(&job.text)).unwrap(), expected);
@@ -85,15 +85,37 @@ mod tests {
     #[test]
     fn printed_marks() {
         let bars = "region barrule ppm";
-        assert_eq!(body("T6, P10: midpoint of n0000000000000001 twice"), ["0 0 1 0000ff - -", "1 0 1 0000ff - -", bars]);
-        assert_eq!(body("T6, P10: midpoint of n0000000000000003 twice"), ["0 0 1 ff0000 - -", "1 0 1 ff0000 - -", bars]);
-        assert_eq!(body("T6, P10: midpoint of n8000000000000003 twice"), ["0 0 1 0000ff - -", "1 0 1 0000ff - -", bars]);
-        assert_eq!(body("differences 1.8: imported scale"), ["0 0 2 - - -", bars]);
-        assert_eq!(body("differences 1.6: scale2 of one value"), ["0 0 1 0000ff - -", bars]);
-        assert_eq!(body("differences 1.5: 41 of 640")[1], "1 0 3 00ff00 64062 2");
-        assert_eq!(body("differences 1.4: largest span"), ["0 0 3 00ff00 0 0", "1 0 3 00ff00 0 0", bars, "0 0 0", "1 0 0"]);
-        let kinds = ["0 0 1 000000 - -", "0 1 2 - - -", "0 2 3 00ff00 1000000 40", "0 3 4 0000ff 1000000 40", bars, "0 2 1000000"];
+        assert_eq!(body("T6, P10: midpoint of n0000000000000001 twice"), ["0 0 1 0000ff - - 3", "1 0 1 0000ff - - 3", bars]);
+        assert_eq!(body("T6, P10: midpoint of n0000000000000003 twice"), ["0 0 1 ff0000 - - 0", "1 0 1 ff0000 - - 0", bars]);
+        assert_eq!(body("T6, P10: midpoint of n8000000000000003 twice"), ["0 0 1 0000ff - - 3", "1 0 1 0000ff - - 3", bars]);
+        assert_eq!(body("differences 1.8: imported scale"), ["0 0 2 - - - 1", bars]);
+        assert_eq!(body("differences 1.6: scale2 of one value"), ["0 0 1 0000ff - - 1", bars]);
+        assert_eq!(body("differences 1.5: 41 of 640")[1], "1 0 3 00ff00 64062 2 0");
+        assert_eq!(body("differences 1.4: largest span"), ["0 0 3 00ff00 0 0 2", "1 0 3 00ff00 0 0 2", bars, "0 0 0", "1 0 0"]);
+        let kinds = ["0 0 1 000000 - - -", "0 1 2 - - - -", "0 2 3 00ff00 1000000 40 1", "0 3 4 0000ff 1000000 40 1", bars, "0 2 1000000"];
         assert_eq!(body("T5: kinds 1 to 4, black"), kinds);
         assert_eq!(body("T11: 0 goes ahead of 1")[3..], ["0 1 1000000"]);
+    }
+
+    /// The last fields of the marks, in the order of the report.
+    fn shapes(name: &str) -> String {
+        let marks = body(name).into_iter().take_while(|line| line != "region barrule ppm");
+        marks.map(|line| line.rsplit(' ').next().unwrap().to_string()).collect::<Vec<_>>().join(" ")
+    }
+
+    #[test]
+    fn printed_shapes() {
+        assert_eq!(shapes("shape: P2, a flat bar"), "1 1");
+        assert_eq!(shapes("shape: a bar over -0 and 0 is flat"), "1 1");
+        assert_eq!(shapes("shape: a flat bar among what is no number or out of range"), "1 1");
+        assert_eq!(shapes("shape: a bar that is too wide"), "2 2 2");
+        assert_eq!(shapes("shape: bars too wide, and plain, by one bit"), "2 2 0 0");
+        assert_eq!(shapes("shape: scale2, flat and too wide"), "1 1 2 2");
+        assert_eq!(shapes("shape: scale3 over 1, 1, 2"), "1 1 3");
+        assert_eq!(shapes("shape: scale3 over -F, -F, F"), "1 1 5");
+        assert_eq!(shapes("shape: scale3, one half too wide, the other plain"), "2 2 3 0 0 5");
+        assert_eq!(shapes("shape: scale3, a span too wide, both halves plain"), "0 3");
+        assert_eq!(shapes("shape: marks of kind 2 by scale2, scale3 and cellis"), "0 0 0 1 1 3 - -");
+        assert_eq!(shapes("shape: an imported bar that is too wide"), "2 2");
     }
 }

@@ -9,6 +9,7 @@ use crate::error::RenderError;
 use crate::job::{Job, Rgb24, MAX_MARKS};
 use crate::layout::{CellCoordinate, Region, RenderOptions, Resolve, Warnings};
 use crate::observe::{self, Event, Layer};
+use crate::shape::{put_shapes, Ends};
 use crate::{DisplayCell, Sheet};
 
 /// A job carried over, ready for the original.
@@ -49,7 +50,7 @@ pub fn run(sheet: &Sheet, displayed: &Displayed, regions: &mut [Region], options
     Left { result, warnings, count }
 }
 
-/// The checks of document 01, then the original's run, then refusal 9.
+/// The checks of document 01, then the original's run, then refusal 9, else the shapes of its marks.
 pub fn decide(job: &Job, resolve: Resolve) -> Outcome {
     decide_within(job, resolve, MAX_MARKS)
 }
@@ -63,10 +64,11 @@ pub fn decide_within(job: &Job, resolve: Resolve, space: usize) -> Outcome {
     match result {
         Ok(text_layout) => {
             assert!(!text_layout, "the original asks for text layout outside the domain of document 01");
-            let (marks, bars) = listed(&events, &regions);
+            let (mut marks, bars) = listed(&events, &regions);
             if marks.len() > space {
                 return Err(Refusal { number: 9, place: 0, count, actual: marks.len() as u64 });
             }
+            put_shapes(job, &mut marks, Ends::shape);
             Ok(Answer { count, marks, bars, deferred: warnings.deferred, simplified: warnings.simplified })
         }
         Err(RenderError::LimitExceeded { actual, .. }) => Err(Refusal { number: 7, place: 0, count, actual }),
@@ -93,7 +95,7 @@ fn mark(region: usize, rule: usize, layer: Option<Layer>, bar: Option<(Rgb24, u3
         // The original has no such outcome; a damaged one may.
         _ => (0, [0; 3], 0),
     };
-    Mark { region, rule, kind, colour, ppm }
+    Mark { region, rule, kind, colour, ppm, shape: None }
 }
 
 fn kept_bar(region: &Region) -> Option<(Rgb24, u32)> {

@@ -6,8 +6,8 @@ use crate::generate::sheets::{value, Flavour};
 use crate::rng::Rng;
 use crate::write::{hex, value_text};
 
-pub const LEAVES: [&str; 12] =
-    ["ratio", "channel", "cellis", "expr", "midpoint", "split", "axis", "number", "key", "reads", "writes", "typed"];
+pub const LEAVES: [&str; 13] =
+    ["ratio", "normalized", "channel", "cellis", "expr", "midpoint", "split", "axis", "number", "key", "reads", "writes", "typed"];
 
 const SPLIT_BYTES: &[u8; 7] = b"A1'=<> ";
 const PPM: [u32; 8] = [0, 1, 499_999, 500_000, 500_001, 999_999, 1_000_000, u32::MAX];
@@ -23,6 +23,24 @@ fn ordered(rng: &mut Rng) -> String {
     three.sort_by(f64::total_cmp);
     let [low, value, high] = three.map(|v| format!("n{:016x}", v.to_bits()));
     format!("{value} {low} {high}")
+}
+
+/// An end from 2^1022 up to the infinity: the difference of two such ends of either sign is finite or not.
+fn far(rng: &mut Rng, sign: u64) -> String {
+    format!("n{:016x}", (0x7fd0_0000_0000_0000 + rng.below(0x0020_0000_0000_0001)) | sign)
+}
+
+/// A value and two ends: in order, equal, far apart, or any.
+fn ends(rng: &mut Rng) -> String {
+    match rng.below(4) {
+        0 => ordered(rng),
+        1 => {
+            let (value, end) = (float(rng), float(rng));
+            format!("{value} {end} {end}")
+        }
+        2 => format!("{} {} {}", float(rng), far(rng, 1 << 63), far(rng, 0)),
+        _ => format!("{} {} {}", float(rng), float(rng), float(rng)),
+    }
 }
 
 fn ppm(rng: &mut Rng) -> u32 {
@@ -65,6 +83,7 @@ pub fn line(rng: &mut Rng, leaf: &str) -> String {
     match leaf {
         "ratio" if rng.one_in(2) => format!("ratio {}", ordered(rng)),
         "ratio" => format!("ratio {} {} {}", float(rng), float(rng), float(rng)),
+        "normalized" => format!("normalized {}", ends(rng)),
         "channel" => format!("channel {} {} {}", rng.below(256), rng.below(256), ppm(rng)),
         "cellis" => {
             let op = rng.below(8);

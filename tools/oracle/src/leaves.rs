@@ -1,11 +1,12 @@
-//! The leaves, one call a line: arguments in, the original's answer out; that of a1.rs for references as they are typed. README.md has the
-//! lines.
+//! The leaves, one call a line: arguments in, the original's answer out; that of shape.rs for the shape beside a ratio, and of a1.rs for
+//! references as they are typed. README.md has the lines.
 
 use crate::a1;
 use crate::carry::cell;
 use crate::job::{Operand, Reference, Value};
 use crate::layout::probed::probe;
 use crate::read_fields::{decimal_u16, decimal_u32, decimal_u8, operand, text, value};
+use crate::shape::shape;
 use crate::{Cell, DV_OPS};
 
 /// The f64 of a field `n` and 16 hex digits.
@@ -44,6 +45,11 @@ fn or_none(answer: Option<String>) -> String {
     answer.unwrap_or("none".to_string())
 }
 
+/// The ppm of the original, and the shape.
+fn normalized(value: f64, minimum: f64, maximum: f64) -> String {
+    format!("{} {}", probe::ratio(value, minimum, maximum), shape(minimum, maximum))
+}
+
 /// The answer to a line; nothing for a line that is none of the leaves' lines.
 pub fn answer(line: &str) -> Option<String> {
     let fields: Vec<&str> = line.split(' ').collect();
@@ -51,6 +57,7 @@ pub fn answer(line: &str) -> Option<String> {
     let byte = |field: &str, most: u8| decimal_u8(field.as_bytes(), most);
     Some(match fields[..] {
         ["ratio", v, lo, hi] => probe::ratio(float(v)?, float(lo)?, float(hi)?).to_string(),
+        ["normalized", v, lo, hi] => normalized(float(v)?, float(lo)?, float(hi)?),
         ["channel", start, end, ppm] => probe::channel(byte(start, 255)?, byte(end, 255)?, number(ppm)?).to_string(),
         ["cellis", op, v, first, second] => {
             let second = if second == "-" { None } else { Some(float(second)?) };
@@ -93,6 +100,19 @@ mod tests {
         says("ratio n7ff8000000000000 n4014000000000000 n4014000000000000", "1000000");
         says("channel 255 0 500000", "128");
         says("channel 255 0 1", "255");
+    }
+
+    /// P1, P2 and P4 with their shapes; what is no number at either end is too wide, as a value it is plain.
+    #[test]
+    fn ratio_with_its_shape() {
+        says("normalized n4000000000000000 n3ff0000000000000 n4008000000000000", "500000 0");
+        says("normalized n4014000000000000 n4014000000000000 n4014000000000000", "1000000 1");
+        says("normalized n7fefffffffffffff nffefffffffffffff n7fefffffffffffff", "0 2");
+        says("normalized n7fefffffffffffff n7fefffffffffffff nffefffffffffffff", "1000000 1");
+        says("normalized n4000000000000000 n7ff8000000000000 n4008000000000000", "0 2");
+        says("normalized n4000000000000000 n3ff0000000000000 n7ff8000000000000", "0 2");
+        says("normalized n7ff8000000000000 n3ff0000000000000 n4008000000000000", "0 0");
+        says("normalized n7ff0000000000000 n3ff0000000000000 n4008000000000000", "1000000 0");
     }
 
     /// P8, P9 and the traps T6 and T8 of the readings.

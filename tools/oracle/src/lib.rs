@@ -53,6 +53,9 @@ pub mod saves;
 #[cfg(test)]
 mod saves_tests;
 pub mod sha256;
+pub mod shape;
+#[cfg(test)]
+mod shape_tests;
 pub mod shrink;
 pub mod stored;
 pub mod tour;

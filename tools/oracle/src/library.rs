@@ -51,6 +51,8 @@ extern "C" {
         colours_len: usize,
         ppms: *mut u32,
         ppms_len: usize,
+        shapes: *mut u32,
+        shapes_len: usize,
         barrules: *mut u32,
         barrules_len: usize,
         barppms: *mut u32,

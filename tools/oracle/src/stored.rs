@@ -111,16 +111,27 @@ pub fn read(list: &[u8]) -> Result<Vec<Entry>, String> {
     }
 }
 
-/// Damages every 29th report in one of four ways; gives their numbers.
+/// Where the shape of the first mark stands: at the end of the fourth line, unless the names of the bars do.
+fn first_shape(report: &[u8]) -> Option<usize> {
+    let ends: Vec<usize> = (0..report.len()).filter(|&at| report[at] == b'\n').take(4).collect();
+    match ends[..] {
+        [_, _, names, mark] if !report[names + 1..].starts_with(b"region ") => Some(mark - 1),
+        _ => None,
+    }
+}
+
+/// Damages every 29th report in one of five ways; gives their numbers.
 pub fn damage(entries: &mut [Entry]) -> Vec<usize> {
     let mut damaged = Vec::new();
     for (number, entry) in entries.iter_mut().enumerate().filter(|(number, _)| number % 29 == 13) {
         let report = &mut entry.report;
         let middle = report.len() / 2;
-        match number % 4 {
+        let shape = first_shape(report).unwrap_or(middle);
+        match number % 5 {
             0 => report.extend_from_slice(b"0 0 0\n"),
             1 => drop(report.pop()),
             2 => report[middle] ^= 1,
+            3 => report[shape] ^= 1,
             // A digit of the second line: the number itself.
             _ => report[52] = if report[52] == b'0' { b'1' } else { b'0' },
         }
@@ -138,14 +149,14 @@ mod tests {
         let entries = |count: usize| -> Vec<Entry> {
             (0..count).map(|number| make_in(1, number as u64, 0).text).map(|job| Entry { report: report(&job), job }).collect()
         };
-        let list = write(&entries(60));
+        let list = write(&entries(150));
         let mut back = read(&list).unwrap();
-        assert!(back.iter().zip(entries(60)).all(|(a, b)| a.job == b.job && a.report == b.report));
+        assert!(back.iter().zip(entries(150)).all(|(a, b)| a.job == b.job && a.report == b.report));
         let damaged = damage(&mut back);
-        let seen: Vec<usize> = (0..60).filter(|&at| report(&back[at].job) != back[at].report).collect();
-        assert_eq!((damaged.len(), damaged), (2, seen));
+        let seen: Vec<usize> = (0..150).filter(|&at| report(&back[at].job) != back[at].report).collect();
+        assert_eq!((damaged.len(), damaged), (5, seen));
         assert!(read(&list[..list.len() - 3]).is_err());
         assert!(read(&list[1..]).is_err());
-        assert!(read(&[&list[..], b"end 60\n"].concat()).is_err());
+        assert!(read(&[&list[..], b"end 150\n"].concat()).is_err());
     }
 }

@@ -33,6 +33,7 @@ impl Tour {
         };
         for mark in &answer.marks {
             self.seen(&format!("marks of kind {}", mark.kind), 1);
+            self.seen(&mark.shape.map_or("marks without a shape".to_string(), |shape| format!("marks of shape {shape}")), 1);
             self.seen("marks of bars of 1 to 24,999 ppm", u64::from(mark.kind >= 3 && (1..25_000).contains(&mark.ppm)));
         }
         self.seen("bars", answer.bars.len() as u64);

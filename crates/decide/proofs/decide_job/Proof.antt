@@ -2,6 +2,7 @@
 use mathlib.Core.Path.{refl}
 use denote.Ref.{now}
 use borrow.Author.Needs.{needs}
+use Rattle.model.specs.Job.{rulesOf}
 use Rattle.checks.specs.Checked.{cellColumns, jobOf}
 use Rattle.jobtext.specs.Decided.{wholeSpace}
 use Rattle.report.proofs.Printing.{printed-all}
@@ -13,13 +14,13 @@ same-length : tie.Need-same-length
 same-length c = search needs
 
 returns : tie.Need-returns
-unfolding wholeSpace
+unfolding wholeSpace rulesOf
 returns c =
     let wrote = c .before .before in
     let called = wrote .before .before .before .before .before .before .before .before .before .before .before .before .before .before
-    .before .before .before in
+    .before .before .before .before .before in
     let a = called .before .before .before .before .before .before .before .before .before .before .before .before .before .before
-    .before .before .before .before .before .before .args in
+    .before .before .before .before .before .before .before .args in
     let j = jobOf (cellColumns (now (a .rows)) (now (a .cols)) (now (a .kinds)) (now (a .wraps)) (now (a .nums)) (now (a .ats)) (now
     (a .lens)))
     (now (a .region-rows)) (now (a .region-cols)) (now (a .pool)) (a .name) (a .rules) (a .start) in
@@ -33,6 +34,6 @@ returns c =
 pub decide-job-spec : {M : Type 1} → statement M
 decide-job-spec =
     tie.close
-    (tie.spec (λ _. refl) (λ _. refl) (λ _. refl) (λ _. refl) (λ _. refl) (λ _. refl) (λ _. refl) (λ _. refl) (λ _ _. tt)
+    (tie.spec (λ _. refl) (λ _. refl) (λ _. refl) (λ _. refl) (λ _. refl) (λ _. refl) (λ _. refl) (λ _. refl) (λ _. refl) (λ _ _. tt)
     (λ c. search needs) (λ c. search needs) (λ c. search needs) (λ c. search needs) (λ c. search needs) (λ c. search needs)
-    (λ c. search needs) (λ _ _. tt) same-length returns)
+    (λ c. search needs) (λ c. search needs) (λ _ _. tt) same-length returns)

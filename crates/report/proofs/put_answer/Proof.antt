@@ -20,7 +20,8 @@ put-bytes-requires c κs = search needs
 put-mark-lines-requires : tie.Need-put-mark-lines-requires
 put-mark-lines-requires c κs =
     let markNames = c .before .before .before in
-    let start = markNames .before .before .before .before .before .before .before .before .before .before .before in
+    let start = markNames .before .before .before .before .before .before .before .before .before .before .before .before .before
+    in
     laid-ready (markNames .put-bytes .ensures) (omega (arith, start .good .0))
 
 slice-aggregate-put-bytes-2 : tie.Need-slice-aggregate-put-bytes-2
@@ -34,7 +35,8 @@ put-bar-lines-requires c κs =
     let barNames = c .before .before .before in
     let marks = barNames .before .before .before .before .before in
     let markNames = marks .before .before .before .before in
-    let start = markNames .before .before .before .before .before .before .before .before .before .before .before in
+    let start = markNames .before .before .before .before .before .before .before .before .before .before .before .before .before
+    in
     laid-ready (barNames .put-bytes2 .ensures) (omega (arith, start .good .0))
 
 returns : tie.Need-returns
@@ -44,7 +46,8 @@ returns c =
     let barNames = bars .before .before .before .before in
     let marks = barNames .before .before .before .before .before in
     let markNames = marks .before .before .before .before in
-    let start = markNames .before .before .before .before .before .before .before .before .before .before .before in
+    let start = markNames .before .before .before .before .before .before .before .before .before .before .before .before .before
+    in
     let room : length (start .args .text .now) < last = omega (arith, start .good .0) in
     let lines = stops-then (stops-of-laid room (markNames .put-bytes .ensures)) (marks .put-mark-lines .ensures) in
     let names = stops-of-laid (omega (arith, stops-length lines)) (barNames .put-bytes2 .ensures) in

@@ -1,4 +1,4 @@
--- `report::put_mark` meets its contract: region, rule and paint. Assumes nothing.
+-- `report::put_mark` meets its contract: region, rule and paint, with its shape if the table says so. Assumes nothing.
 use Prim.Native.Nat.{_<_}
 use native.Mathlib.Omega.{arith}
 use mathlib.Core.List.{append-assoc}
@@ -16,6 +16,9 @@ put-number-requires c κs = search needs
 put-number-requires-2 : tie.Need-put-number-requires-2
 put-number-requires-2 c κs = search needs
 
+at-u8-requires : tie.Need-at-u8-requires
+at-u8-requires c κs = search needs
+
 put-paint-requires : tie.Need-put-paint-requires
 put-paint-requires c κs = search needs
 
@@ -23,11 +26,12 @@ returns : tie.Need-returns
 unfolding markLine
 returns c =
     let paint = c .before .before in
-    let rule = paint .before .before .before .before in
+    let flag = paint .before .before in
+    let rule = flag .before .before .before in
     let region = rule .before .before .before .before in
-    let room : length (region .before .before .before .args .text .now) < last = omega arith in
+    let room : length (region .before .before .before .before .args .text .now) < last = omega arith in
     laid-as (laid-then room (laid-then room (region .put-number .ensures) (rule .put-number2 .ensures)) (paint .put-paint .ensures))
-    (simp append-assoc)
+    (rw (flag .at-u8 .ensures) (simp append-assoc))
 
 same-length : tie.Need-same-length
 same-length c = laid-length (returns c)
@@ -35,4 +39,4 @@ same-length c = laid-length (returns c)
 pub put-mark-spec : {M : Type 1} → statement M
 put-mark-spec =
     tie.close
-    (tie.spec put-number-requires put-number-requires-2 put-paint-requires same-length returns)
+    (tie.spec put-number-requires put-number-requires-2 at-u8-requires put-paint-requires same-length returns)

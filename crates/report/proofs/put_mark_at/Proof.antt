@@ -1,4 +1,4 @@
--- `report::put_mark_at` meets its contract: what the five columns hold at a place. Assumes nothing.
+-- `report::put_mark_at` meets its contract: what the six columns hold at a place. Assumes nothing.
 use borrow.Author.Needs.{needs}
 use Rattle.put.proofs.Laws.{laid-as, laid-length}
 use Rattle.report.proofs.put_mark_at.Statement.{statement}
@@ -19,21 +19,27 @@ at-u32-requires-4 c κs = search needs
 at-u32-requires-5 : tie.Need-at-u32-requires-5
 at-u32-requires-5 c κs = search needs
 
+at-u32-requires-6 : tie.Need-at-u32-requires-6
+at-u32-requires-6 c κs = search needs
+
 put-mark-requires : tie.Need-put-mark-requires
 put-mark-requires c κs = search needs
 
 returns : tie.Need-returns
 returns c =
     let put = c .before .before in
-    let second = put .before .before in
-    let first = second .before .before .before .before in
+    let region = put .before .before in
+    let shape = region .before .before in
+    let ppm = shape .before in
+    let colour = ppm .before in
     laid-as (put .put-mark .ensures)
     (rw (
-      first .at-u32 .ensures,
-      second .before .before .before .at-u322 .ensures,
-      second .before .before .at-u323 .ensures,
-      second .at-u324 .ensures,
-      put .before .at-u325 .ensures,
+      colour .before .at-u32 .ensures,
+      colour .at-u322 .ensures,
+      ppm .at-u323 .ensures,
+      shape .at-u324 .ensures,
+      region .at-u325 .ensures,
+      put .before .at-u326 .ensures,
     ))
 
 same-length : tie.Need-same-length
@@ -48,6 +54,7 @@ put-mark-at-spec =
     at-u32-requires-3
     at-u32-requires-4
     at-u32-requires-5
+    at-u32-requires-6
     put-mark-requires
     same-length
     returns)

@@ -1,4 +1,4 @@
--- `report::put_paint` meets its contract: kind, colour, ppm and cells. Assumes nothing.
+-- `report::put_paint` meets its contract: kind, colour, ppm, cells and shape. Assumes nothing.
 use Prim.Native.Nat.{_<_}
 use native.Mathlib.Omega.{arith}
 use mathlib.Core.List.{append-assoc}
@@ -35,10 +35,17 @@ cast-put-number-or-dash-2 c = search needs
 put-number-or-dash-requires-2 : tie.Need-put-number-or-dash-requires-2
 put-number-or-dash-requires-2 c κs = search needs
 
+cast-put-number-or-dash-3 : tie.Need-cast-put-number-or-dash-3
+cast-put-number-or-dash-3 c = search needs
+
+put-number-or-dash-requires-3 : tie.Need-put-number-or-dash-requires-3
+put-number-or-dash-requires-3 c κs = search needs
+
 returns : tie.Need-returns
 unfolding hasBar hasColour paintText
 returns c =
-    let cells = c .before .before in
+    let shape = c .before .before in
+    let cells = shape .before .before .before .before .before in
     let ppm = cells .before .before .before .before .before in
     let colour = ppm .before .before .before .before .before in
     let kind = colour .before .before .before .before .before in
@@ -46,9 +53,11 @@ returns c =
     omega (arith, kind .before .before .before .before .before .good .0) in
     laid-as (
     laid-then room (
+    laid-then room (
     laid-then room (laid-then room (kind .put-number .ensures) (colour .put-colour-or-dash .ensures))
     (ppm .put-number-or-dash .ensures))
     (cells .put-number-or-dash2 .ensures))
+    (shape .put-number-or-dash3 .ensures))
     (rw (cells .before .bar-cells .ensures) (simp append-assoc))
 
 same-length : tie.Need-same-length
@@ -66,5 +75,7 @@ put-paint-spec =
     bar-cells-requires
     cast-put-number-or-dash-2
     put-number-or-dash-requires-2
+    cast-put-number-or-dash-3
+    put-number-or-dash-requires-3
     same-length
     returns)

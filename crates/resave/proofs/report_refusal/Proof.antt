@@ -26,6 +26,9 @@ slice-aggregate-write-report-6 c = search needs
 slice-aggregate-write-report-7 : tie.Need-slice-aggregate-write-report-7
 slice-aggregate-write-report-7 c = search needs
 
+slice-aggregate-write-report-8 : tie.Need-slice-aggregate-write-report-8
+slice-aggregate-write-report-8 c = search needs
+
 write-report-requires : tie.Need-write-report-requires
 write-report-requires c κs = search needs
 
@@ -35,8 +38,8 @@ same-length c = search needs
 returns : tie.Need-returns
 returns c =
     let wrote = c .before .before .write-report in
-    let start = c .before .before .before .before .before .before .before .before .before .before .before .before in
-    printed-all _ (refusal-held _ (start .pre)) (refusal-shown _ (start .pre)) (wrote .ensures .0) (wrote .ensures .1)
+    let start = c .before .before .before .before .before .before .before .before .before .before .before .before .before in
+    printed-all _ (refusal-held _ (start .pre)) (refusal-shown _ _ (start .pre)) (wrote .ensures .0) (wrote .ensures .1)
 
 pub report-refusal-spec : {M : Type 1} → statement M
 report-refusal-spec =
@@ -49,6 +52,7 @@ report-refusal-spec =
     slice-aggregate-write-report-5
     slice-aggregate-write-report-6
     slice-aggregate-write-report-7
+    slice-aggregate-write-report-8
     write-report-requires
     same-length
     returns)

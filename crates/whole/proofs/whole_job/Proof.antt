@@ -5,10 +5,9 @@ use mathlib.Core.Bool.{not}
 use borrow.Author.Needs.{needs}
 use borrow.Author.Tests.{ne-eqb}
 use Rattle.memory.specs.Memory.{page, pageLength}
-use Rattle.reporttext.specs.Report.{reportOf}
 use Rattle.report.proofs.Printing.{printed-all}
 use Rattle.readlaws.proofs.Fronts.{job-read, inside, part-long}
-use Rattle.whole.proofs.Reports.{refused-report, decides-read}
+use Rattle.whole.proofs.Reports.{refused-report, read-reported}
 use Rattle.whole.proofs.whole_job.Statement.{statement}
 use Rattle.whole.proofs.whole_job.Tie as tie
 
@@ -168,7 +167,7 @@ returns-2 c =
     let decided = c .before .before .decide-job in
     let at = c .before .before .before .before .before .before .before .before .before .before .before .before .before .before in
     let job = at .before .before .before .before .before .before .before .before .before .before .before .before .read-job in
-    let same = ap reportOf (decides-read _ (job .ensures .0) (at .if1 .left) (job .ensures .1)) in
+    let same = read-reported _ (job .ensures .0) (at .if1 .left) (job .ensures .1) in
     (decided .ensures .0 ∙ ap (pageLength _) same, decided .ensures .1 ∙ ap (page _) same)
 
 -- nothing is asked where it calls

@@ -71,7 +71,7 @@ pub fn overlap(rng: &mut Rng) -> Job {
 
 pub fn specials(rng: &mut Rng) -> Job {
     let field = Field::new(rng.between(1, 6) as u32, 1);
-    let flavour = *rng.pick(&[Flavour::Special, Flavour::Extremes]);
+    let flavour = *rng.pick(&[Flavour::Special, Flavour::Extremes, Flavour::Wide]);
     let mut job = sheet(rng, field, flavour);
     for _ in 0..rng.between(1, 3) {
         let which = *rng.pick(&[1, 2, 2, 3, 4, 5, 5, 0, 7]);

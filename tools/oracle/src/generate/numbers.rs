@@ -47,6 +47,17 @@ const SPECIAL: [u64; 34] = [
 pub const EXTREMES: [u64; 12] =
     [LARGEST, LARGEST, LARGEST - 1, SIGN | LARGEST, 0x7fdf_ffff_ffff_ffff, 0, SIGN, 1, 2, 3, SIGN | 3, SIGN | 1];
 
+/// The largest number and its half, with both signs; and where the difference from the largest is first not finite, and just finite.
+pub const WIDE: [u64; 7] = [
+    LARGEST,
+    SIGN | LARGEST,
+    0x7fdf_ffff_ffff_ffff,
+    SIGN | 0x7fdf_ffff_ffff_ffff,
+    0,
+    SIGN | 0x7c90_0000_0000_0000,
+    SIGN | 0x7c8f_ffff_ffff_ffff,
+];
+
 pub fn small(rng: &mut Rng) -> u64 {
     let whole = rng.below(12) as f64 - 3.0;
     let part = *rng.pick(&[0.0, 0.0, 0.0, 0.5, 0.25, 0.1]);

@@ -62,6 +62,8 @@ pub enum Flavour {
     Ties,
     /// The largest numbers, whose sums overflow, and the least, whose halves round.
     Extremes,
+    /// Large numbers of both signs, whose differences are finite or not.
+    Wide,
 }
 
 const TEXTS: [&[u8]; 14] =
@@ -122,6 +124,7 @@ pub fn value(rng: &mut Rng, flavour: Flavour) -> Value {
         Flavour::Mixed => mixed(rng),
         Flavour::Keys => keyed(rng),
         Flavour::Extremes => Value::Number(*rng.pick(&numbers::EXTREMES)),
+        Flavour::Wide => Value::Number(*rng.pick(&numbers::WIDE)),
         Flavour::Ties => Value::Number((rng.below(3) as f64).to_bits()),
     }
 }

@@ -13,31 +13,43 @@ use Rattle.call.proofs.columns.settle_columns.Tie as tie
 
 same-length : tie.Need-same-length
 same-length c = c .before .before .before .before .before .before .before .before .before .before .before .before .before .before
+    .before .before
     .keep-columns .kept .1 .0
 
 same-length-2 : tie.Need-same-length-2
 same-length-2 c = c .before .before .before .before .before .before .before .before .before .before .before .before .before .before
+    .before .before
     .keep-columns .kept .1 .1 .0
 
 same-length-3 : tie.Need-same-length-3
 same-length-3 c = c .before .before .before .before .before .before .before .before .before .before .before .before .before .before
+    .before .before
     .keep-columns .kept .1 .1 .1 .0
 
 same-length-4 : tie.Need-same-length-4
 same-length-4 c = c .before .before .before .before .before .before .before .before .before .before .before .before .before .before
+    .before .before
     .keep-columns .kept .1 .1 .1 .1 .0
 
 same-length-5 : tie.Need-same-length-5
 same-length-5 c = c .before .before .before .before .before .before .before .before .before .before .before .before .before .before
+    .before .before
     .keep-columns .kept .1 .1 .1 .1 .1 .0
 
 same-length-6 : tie.Need-same-length-6
 same-length-6 c = c .before .before .before .before .before .before .before .before .before .before .before .before .before .before
+    .before .before
     .keep-columns .kept .1 .1 .1 .1 .1 .1 .0
 
 same-length-7 : tie.Need-same-length-7
 same-length-7 c = c .before .before .before .before .before .before .before .before .before .before .before .before .before .before
+    .before .before
     .keep-columns .kept .1 .1 .1 .1 .1 .1 .1 .0
+
+same-length-8 : tie.Need-same-length-8
+same-length-8 c = c .before .before .before .before .before .before .before .before .before .before .before .before .before .before
+    .before .before
+    .keep-columns .kept .1 .1 .1 .1 .1 .1 .1 .1 .0
 
 -- a column that is kept or cleared by a test that is another
 kept-as : (keep keep′ : Bool) (l : List ℕ) {x : List ℕ} → x ≡ keptIf keep l → keep ≡ keep′ → x ≡ keptIf keep′ l
@@ -45,10 +57,11 @@ kept-as keep keep′ l e h = e ∙ ap (λ b. keptIf b l) h
 
 returns : tie.Need-returns
 returns c =
-    let kept = c .before .before .before .before .before .before .before .before .before .before .before .before .before .before in
-    let settled = kept .before .before .before .before .before .before .before .before in
+    let kept = c .before .before .before .before .before .before .before .before .before .before .before .before .before .before .before
+    .before in
+    let settled = kept .before .before .before .before .before .before .before .before .before in
     let space = settled .before .shortest .ensures in
-    let a = settled .before .before .before .before .before .before .before .before .before .args in
+    let a = settled .before .before .before .before .before .before .before .before .before .before .args in
     let ran = a .ran in
     let both = settled .settle .ensures in
     let keep = ap (λ (p : Summary × Bool). p .1) both ∙ ap (λ (n : ℕ). isAnswered (settledAs n ran)) space in
@@ -64,7 +77,10 @@ returns c =
               kept-as _ _ (now (a .colours)) (e .1 .1 .1 .0) keep,
               (
                 kept-as _ _ (now (a .ppms)) (e .1 .1 .1 .1 .0) keep,
-                (kept-as _ _ (now (a .barrules)) (e .1 .1 .1 .1 .1 .0) keep, kept-as _ _ (now (a .barppms)) (e .1 .1 .1 .1 .1 .1) keep),
+                (
+                  kept-as _ _ (now (a .shapes)) (e .1 .1 .1 .1 .1 .0) keep,
+                  (kept-as _ _ (now (a .barrules)) (e .1 .1 .1 .1 .1 .1 .0) keep, kept-as _ _ (now (a .barppms)) (e .1 .1 .1 .1 .1 .1 .1) keep),
+                ),
               ),
             ),
           ),
@@ -76,4 +92,4 @@ pub settle-columns-spec : {M : Type 1} → statement M
 settle-columns-spec =
     tie.close
     (tie.spec (λ _ _. tt) (λ _ _. tt) (λ _ _. tt)
-    same-length same-length-2 same-length-3 same-length-4 same-length-5 same-length-6 same-length-7 returns)
+    same-length same-length-2 same-length-3 same-length-4 same-length-5 same-length-6 same-length-7 same-length-8 returns)

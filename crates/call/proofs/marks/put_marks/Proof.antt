@@ -25,6 +25,9 @@ put-colours-requires c κs = search needs
 put-ppms-requires : tie.Need-put-ppms-requires
 put-ppms-requires c κs = search needs
 
+put-shapes-requires : tie.Need-put-shapes-requires
+put-shapes-requires c κs = search needs
+
 same-length : tie.Need-same-length
 same-length c = search needs
 
@@ -40,14 +43,18 @@ same-length-4 c = search needs
 same-length-5 : tie.Need-same-length-5
 same-length-5 c = search needs
 
+same-length-6 : tie.Need-same-length-6
+same-length-6 c = search needs
+
 returns : tie.Need-returns
 returns c =
-    let fifth = c .before .before in
+    let sixth = c .before .before in
+    let fifth = sixth .before .before .before .before in
     let fourth = fifth .before .before .before .before in
     let third = fourth .before .before .before .before in
     let second = third .before .before .before .before .before in
     let first = second .before .before .before .before in
-    let a = first .before .before .before .before .before .before .before .before .before .args in
+    let a = first .before .before .before .before .before .before .before .before .before .before .args in
     let alike = third .put-same2 .ensures
     ∙ ap (λ k. sets (a .kinds .now) (a .n) (replicate (length (a .hits .now)) k)) (third .before .before .kind-by .ensures) in
     (λ i. record {
@@ -56,8 +63,9 @@ returns c =
       kinds = alike i;
       colours = fourth .put-colours .ensures i;
       ppms = fifth .put-ppms .ensures i;
+      shapes = sixth .put-shapes .ensures i;
     })
-    ∙ sym (put-hits (a .test) (a .imported) (a .values .now) (a .rule) _ _ _ _ _ (a .n) (a .hits .now))
+    ∙ sym (put-hits (a .test) (a .imported) (a .values .now) (a .rule) _ _ _ _ _ _ (a .n) (a .hits .now))
 
 pub put-marks-spec : {M : Type 1} → statement M
 put-marks-spec =
@@ -69,9 +77,11 @@ put-marks-spec =
     put-same-requires-2
     put-colours-requires
     put-ppms-requires
+    put-shapes-requires
     same-length
     same-length-2
     same-length-3
     same-length-4
     same-length-5
+    same-length-6
     returns)

@@ -30,7 +30,7 @@ blank = replicate 1024 (ofBits binary64 0)
 module _ (c : tie.After-walk-cells) where
   abbrev begun : tie.Start
   begun = c .before .before .before .before .before .before .before .before .before .before .before .before .before .before .before
-      .before .before .before .before .before .before .before
+      .before .before .before .before .before .before .before .before
 
   abbrev cells : CellColumns
   cells =
@@ -149,7 +149,7 @@ array-borrow-prefix-places c = search needs
 
 slice-aggregate-walk-cells : tie.Need-slice-aggregate-walk-cells
 slice-aggregate-walk-cells c = sym (cut-long _ 0 (c .before .before .before .before .before .before .before .before .before .before
-    .before .before .before .before .before .before .before .before .before .before .before .pre .1 .1))
+    .before .before .before .before .before .before .before .before .before .before .before .before .pre .1 .1))
 
 walk-cells-requires : tie.Need-walk-cells-requires
 walk-cells-requires c κs = search needs
@@ -213,7 +213,7 @@ slice-aggregate-run-rules-4 c = search needs
 
 run-rules-requires : tie.Need-run-rules-requires
 run-rules-requires c κs =
-    let coded = c .before .before .before .before .before .before .before .before .before .before .before .before in
+    let coded = c .before .before .before .before .before .before .before .before .before .before .before .before .before in
     let n = coded .before .before in
     let w = walked (made n) in
     let told = w .before .before .before .outline .ensures in
@@ -256,15 +256,18 @@ same-length-7 c = search needs
 same-length-8 : tie.Need-same-length-8
 same-length-8 c = search needs
 
+same-length-9 : tie.Need-same-length-9
+same-length-9 c = search needs
+
 returns : tie.Need-returns
 returns c =
     let ran = c .before .before .before .before .before .before .before .before .before .before .before .before .before .before .before
-    .before .before .before .before .before in
-    let coded = ran .before .before .before .before .before .before .before .before .before .before .before .before .before in
+    .before .before .before .before .before .before .before in
+    let coded = ran .before .before .before .before .before .before .before .before .before .before .before .before .before .before in
     let a = begun (walked (made (coded .before .before))) .args in (
       ran .run-rules .ensures (now (a .kinds)) (now (a .wraps)) (now (a .nums)) (now (a .ats)) (now (a .lens)) (tabled coded),
       c .before .before .clear-f64 .ensures
-          ∙ ap (λ (n : ℕ). replicate n zeroF) (ran .run-rules .kept .1 .1 .1 .1 .1 .1 .1 .1 .1 .1 .1 .1 .1 .1 .1 .1 .1 .1 .1 .1 .1 .1 .0),
+          ∙ ap (λ (n : ℕ). replicate n zeroF) (ran .run-rules .kept .1 .1 .1 .1 .1 .1 .1 .1 .1 .1 .1 .1 .1 .1 .1 .1 .1 .1 .1 .1 .1 .1 .1 .0),
     )
 
 pub run-spec : {M : Type 1} → statement M
@@ -301,4 +304,5 @@ run-spec =
     same-length-6
     same-length-7
     same-length-8
+    same-length-9
     returns)

@@ -25,10 +25,10 @@ use Rattle.call.proofs.rules.run_rules.Tie as tie
 
 abbrev Inv-loop : tie.InvT-loop
 Inv-loop count start limit places floats values codes rows cols region-rows region-cols pool sheet regions₀ ruleids₀ markkinds₀ colours₀
-    ppms₀ barrules₀ barppms₀ scratch₀ rules order firsts₀ seconds₀ founds₀ hits₀ flags₀ numeric n alive₀ ran₀ k₀ regions ruleids markkinds
-    colours ppms barrules barppms scratch firsts seconds founds hits flags alive ran k =
-    let marks₀ = markColumns regions₀ ruleids₀ markkinds₀ colours₀ ppms₀ in
-    let marks = markColumns regions ruleids markkinds colours ppms in
+    ppms₀ shapes₀ barrules₀ barppms₀ scratch₀ rules order firsts₀ seconds₀ founds₀ hits₀ flags₀ numeric n alive₀ ran₀ k₀ regions ruleids markkinds
+    colours ppms shapes barrules barppms scratch firsts seconds founds hits flags alive ran k =
+    let marks₀ = markColumns regions₀ ruleids₀ markkinds₀ colours₀ ppms₀ shapes₀ in
+    let marks = markColumns regions ruleids markkinds colours ppms shapes in
     let bars₀ = barColumns barrules₀ barppms₀ in
     let bars = barColumns barrules barppms in
     ((kinds wraps nums ats lens : List ℕ)
@@ -43,8 +43,8 @@ Inv-loop count start limit places floats values codes rows cols region-rows regi
 
 abbrev μ-loop : tie.MeasureT-loop
 μ-loop count start limit places floats values codes rows cols region-rows region-cols pool sheet regions₀ ruleids₀ markkinds₀ colours₀
-    ppms₀ barrules₀ barppms₀ scratch₀ rules order firsts₀ seconds₀ founds₀ hits₀ flags₀ numeric n alive₀ ran₀ k₀ regions ruleids markkinds
-    colours ppms barrules barppms scratch firsts seconds founds hits flags alive ran k =
+    ppms₀ shapes₀ barrules₀ barppms₀ scratch₀ rules order firsts₀ seconds₀ founds₀ hits₀ flags₀ numeric n alive₀ ran₀ k₀ regions ruleids markkinds
+    colours ppms shapes barrules barppms scratch firsts seconds founds hits flags alive ran k =
     count - k
 
 loop-holds : tie.Need-loop-holds Inv-loop μ-loop
@@ -57,6 +57,7 @@ loop-holds c = (
     kinds = refl;
     colours = refl;
     ppms = refl;
+    shapes = refl;
     barRules = refl;
     barPpms = refl;
     scratch = refl;
@@ -73,25 +74,25 @@ loop-holds c = (
 array-read-index : tie.Need-array-read-index Inv-loop μ-loop
 array-read-index c =
     let few = c .before .before .before .before .before .before .before .before .before .before .before .before .before .before .before
-    .before .before .before .before .before .before .pre .0 .2 in
+    .before .before .before .before .before .before .before .pre .0 .2 in
     omega (arith, c .loop-test .taken, few)
 
 cast-at : tie.Need-cast-at Inv-loop μ-loop
 cast-at c =
     let pre = c .before .before .before .before .before .before .before .before .before .before .before .before .before .before .before
-    .before .before .before .before .before .before .pre .0 in
+    .before .before .before .before .before .before .before .pre .0 in
     omega (arith, pre .2, record-within _ _ _ _ (pre .0) (pre .1) (c .loop-test .taken))
 
 mul-rule : tie.Need-mul-rule Inv-loop μ-loop
 mul-rule c =
     let pre = c .before .before .before .before .before .before .before .before .before .before .before .before .before .before .before
-    .before .before .before .before .before .before .pre .0 in
+    .before .before .before .before .before .before .before .pre .0 in
     omega (arith, pre .2, record-within _ _ _ _ (pre .0) (pre .1) (c .loop-test .taken))
 
 element-copy-out-rule : tie.Need-element-copy-out-rule Inv-loop μ-loop
 element-copy-out-rule c =
     let pre = c .before .before .before .before .before .before .before .before .before .before .before .before .before .before .before
-    .before .before .before .before .before .before .pre .0 in
+    .before .before .before .before .before .before .before .pre .0 in
     omega (arith, pre .2, record-within _ _ _ _ (pre .0) (pre .1) (c .loop-test .taken))
 
 slice-aggregate-turn : tie.Need-slice-aggregate-turn Inv-loop μ-loop
@@ -111,12 +112,12 @@ slice-aggregate-turn-5 c = sym (c .before .before .before .before .before .befor
 
 turn-requires : tie.Need-turn-requires Inv-loop μ-loop
 turn-requires c κs =
-    let test = c .before .before .before .before .before .before .before .before .before .before .before .before .before .before in
+    let test = c .before .before .before .before .before .before .before .before .before .before .before .before .before .before .before in
     let below = test .loop-test .taken in
     let at = test .before .loop in
     let inv = at .inv in
     let entry = test .before .before .before .before .before .before .before .before .before .before .before .before .before .before
-    .before .before .before .before .before .before .before in
+    .before .before .before .before .before .before .before .before in
     let a = entry .args in
     let pre = entry .pre in
     let cells = pre .1 .1 .0 in
@@ -152,18 +153,17 @@ turn-requires c κs =
 
 -- ---- behind the turn
 
-abbrev turned : tie.After-slice-known16 Inv-loop μ-loop → tie.After-turn Inv-loop μ-loop
-turned c =
-    c .before .before .before .before .before .before .before .before .before .before .before .before .before .before .before .before
-    .before .before .before .before .before
+abbrev turned : tie.After-slice-known18 Inv-loop μ-loop → tie.After-turn Inv-loop μ-loop
+turned c = c .before .before .before .before .before .before .before .before .before .before .before .before .before .before .before
+    .before .before .before .before .before .before .before .before
 
 module _ (c : tie.After-turn Inv-loop μ-loop) where
   abbrev test : tie.In-loop Inv-loop μ-loop
-  test = c .before .before .before .before .before .before .before .before .before .before .before .before .before .before .before
+  test = c .before .before .before .before .before .before .before .before .before .before .before .before .before .before .before .before
 
   abbrev entry : tie.Start Inv-loop μ-loop
   entry = test .before .before .before .before .before .before .before .before .before .before .before .before .before .before .before
-      .before .before .before .before .before .before
+      .before .before .before .before .before .before .before
 
   abbrev flags : List ℕ
   flags = c .turn .last .1 .1 .1 .1 .1 .1 .1 .1 .1 .1 .1 .1 .1 .1 .1 .1 .1 .1 .1 .1 .0
@@ -211,9 +211,10 @@ loop-again c =
         kinds = k .1 .1 .1 .1 .1 .1 .1 .0 ∙ v .kinds;
         colours = k .1 .1 .1 .1 .1 .1 .1 .1 .0 ∙ v .colours;
         ppms = k .1 .1 .1 .1 .1 .1 .1 .1 .1 .0 ∙ v .ppms;
-        barRules = k .1 .1 .1 .1 .1 .1 .1 .1 .1 .1 .0 ∙ v .barRules;
-        barPpms = k .1 .1 .1 .1 .1 .1 .1 .1 .1 .1 .1 .0 ∙ v .barPpms;
-        scratch = k .1 .1 .1 .1 .1 .1 .1 .1 .1 .1 .1 .1 .0 ∙ v .scratch;
+        shapes = k .1 .1 .1 .1 .1 .1 .1 .1 .1 .1 .0 ∙ v .shapes;
+        barRules = k .1 .1 .1 .1 .1 .1 .1 .1 .1 .1 .1 .0 ∙ v .barRules;
+        barPpms = k .1 .1 .1 .1 .1 .1 .1 .1 .1 .1 .1 .1 .0 ∙ v .barPpms;
+        scratch = k .1 .1 .1 .1 .1 .1 .1 .1 .1 .1 .1 .1 .1 .0 ∙ v .scratch;
         flagged = flags-long done;
       },
       omega (arith, below),
@@ -243,19 +244,22 @@ same-length-5 : tie.Need-same-length-5 Inv-loop μ-loop
 same-length-5 c = c .before .loop .inv .2 .ppms
 
 same-length-6 : tie.Need-same-length-6 Inv-loop μ-loop
-same-length-6 c = c .before .loop .inv .2 .barRules
+same-length-6 c = c .before .loop .inv .2 .shapes
 
 same-length-7 : tie.Need-same-length-7 Inv-loop μ-loop
-same-length-7 c = c .before .loop .inv .2 .barPpms
+same-length-7 c = c .before .loop .inv .2 .barRules
 
 same-length-8 : tie.Need-same-length-8 Inv-loop μ-loop
-same-length-8 c = c .before .loop .inv .2 .scratch
+same-length-8 c = c .before .loop .inv .2 .barPpms
+
+same-length-9 : tie.Need-same-length-9 Inv-loop μ-loop
+same-length-9 c = c .before .loop .inv .2 .scratch
 
 returns : tie.Need-returns Inv-loop μ-loop
 returns c =
     let at = c .before .loop in
-    let entry = c .before .before .before .before .before .before .before .before .before .before .before .before .before .before .before
-    .before .before .before .before .before .before in
+    let entry = c .before .before .before .before .before .before .before .before .before .before .before .before .before .before
+    .before .before .before .before .before .before .before .before in
     let end : at .k ≡ length (orderedRules (entry .args .t1)) = omega (arith, at .inv .3, c .loop-test .left, entry .pre .0 .1) in
     λ kinds wraps nums ats lens tabled.
     rw (c .before .before .none-yet .ensures) at
@@ -294,4 +298,5 @@ run-rules-spec =
     same-length-6
     same-length-7
     same-length-8
+    same-length-9
     returns)

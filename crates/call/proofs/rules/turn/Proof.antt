@@ -19,17 +19,17 @@ use Rattle.call.proofs.rules.turn.Tie as tie
 
 abbrev entered : tie.After-decide → tie.Start
 entered c = c .before .before .before .before .before .before .before .before .before .before .before .before .before .before .before
-    .before .before .before .before .before .before .before .before .before .before .before .before .before .before
+    .before .before .before .before .before .before .before .before .before .before .before .before .before .before .before
 
 abbrev said-before : tie.After-painted → tie.After-decide
 said-before c = c .before .before .before .before .before .before .before .before .before .before .before
 
 abbrev put-before : tie.After-draw-bars-arg2 → tie.After-put-marks
 put-before c = c .before .before .before .before .before .before .before .before .before .before .before .before .before .before .before
-    .before
+    .before .before .before
 
 abbrev painted-before : tie.After-put-marks → tie.After-painted
-painted-before c = c .before .before .before .before .before .before .before
+painted-before c = c .before .before .before .before .before .before .before .before
 
 abbrev drawn : tie.After-struct-known7 → tie.After-draw-bars
 drawn c = c .before .before .before .before .before .before .before .before .before .before
@@ -69,7 +69,7 @@ below c = front-below (hits c) (c .decide .result .count) _ _ (short c) (fit c .
 
 decide-requires : tie.Need-decide-requires
 decide-requires c κs = c .before .before .before .before .before .before .before .before .before .before .before .before .before .before
-    .before .before .before .before .before .before .before .before .before .before .before .before .before .before .pre .1
+    .before .before .before .before .before .before .before .before .before .before .before .before .before .before .before .pre .1
 
 slice-reshare-prefix-painted : tie.Need-slice-reshare-prefix-painted
 slice-reshare-prefix-painted c = short (c .before .before .before .before .before .before .before .before .before .before)
@@ -81,26 +81,26 @@ cast-put-marks : tie.Need-cast-put-marks
 cast-put-marks c = omega (arith, entered (said-before (c .before)) .pre .0 .0)
 
 put-marks-requires : tie.Need-put-marks-requires
-put-marks-requires c κs = below (said-before (c .before .before .before .before .before .before))
+put-marks-requires c κs = below (said-before (c .before .before .before .before .before .before .before))
 
 draw-bars-requires : tie.Need-draw-bars-requires
 draw-bars-requires c κs = below (said-before (painted-before (put-before c)))
 
-cast-t66 : tie.Need-cast-t66
-cast-t66 c = omega (arith, few (said-before (painted-before (put-before (c .before .before .before .before .before .before)))))
+cast-t69 : tie.Need-cast-t69
+cast-t69 c = omega (arith, few (said-before (painted-before (put-before (c .before .before .before .before .before .before)))))
 
-add-t67 : tie.Need-add-t67
-add-t67 c =
+add-t70 : tie.Need-add-t70
+add-t70 c =
     let s = said-before (painted-before (put-before (c .before .before .before .before .before .before .before))) in
     omega (arith, few s, entered s .pre .0 .0)
 
-add-t68 : tie.Need-add-t68
-add-t68 c =
+add-t71 : tie.Need-add-t71
+add-t71 c =
     let s = said-before (painted-before (put-before (c .before .before .before .before .before .before .before .before .before))) in
     omega (arith, s .decide .ensures .1 .0 .1, entered s .pre .0 .1)
 
-add-t69 : tie.Need-add-t69
-add-t69 c =
+add-t72 : tie.Need-add-t72
+add-t72 c =
     let s = said c in
     omega (arith, s .decide .ensures .1 .0 .2, entered s .pre .0 .2)
 
@@ -135,19 +135,22 @@ same-length-10 : tie.Need-same-length-10
 same-length-10 c = put c .put-marks .kept .1 .1 .1 .1 .1 .1 .1 .1 .1 .1 .0
 
 same-length-11 : tie.Need-same-length-11
-same-length-11 c = drawn c .draw-bars .kept .1 .1 .1 .1 .0
+same-length-11 c = put c .put-marks .kept .1 .1 .1 .1 .1 .1 .1 .1 .1 .1 .1 .0
 
 same-length-12 : tie.Need-same-length-12
-same-length-12 c = drawn c .draw-bars .kept .1 .1 .1 .1 .1 .0
+same-length-12 c = drawn c .draw-bars .kept .1 .1 .1 .1 .0
 
 same-length-13 : tie.Need-same-length-13
-same-length-13 c = said c .decide .kept .1 .1 .1 .1 .1 .1 .1 .1 .1 .1 .1 .1 .1 .1 .1 .1 .1 .1 .1 .1 .0
+same-length-13 c = drawn c .draw-bars .kept .1 .1 .1 .1 .1 .0
+
+same-length-14 : tie.Need-same-length-14
+same-length-14 c = said c .decide .kept .1 .1 .1 .1 .1 .1 .1 .1 .1 .1 .1 .1 .1 .1 .1 .1 .1 .1 .1 .1 .0
 
 returns : tie.Need-returns
 returns c =
     let s = said c in
     let a = entered s .args in
-    let marks = markColumns (a .regions .now) (a .ruleids .now) (a .markkinds .now) (a .colours .now) (a .ppms .now) in
+    let marks = markColumns (a .regions .now) (a .ruleids .now) (a .markkinds .now) (a .colours .now) (a .ppms .now) (a .shapes .now) in
     let st = stateOf (a .ran) (a .flags .now) marks (barColumns (a .barrules .now) (a .barppms .now)) in
     let once = s .decide .ensures .1 .0 in (
       λ kinds wraps nums ats lens tabled. turn-decided (indexed (a .index) (a .rule)) _ st (a .values .now) (hits s) (s .decide .result)
@@ -170,10 +173,10 @@ turn-spec =
     put-marks-requires
     (λ _ _. tt)
     draw-bars-requires
-    cast-t66
-    add-t67
-    add-t68
-    add-t69
+    cast-t69
+    add-t70
+    add-t71
+    add-t72
     same-length
     same-length-2
     same-length-3
@@ -187,4 +190,5 @@ turn-spec =
     same-length-11
     same-length-12
     same-length-13
+    same-length-14
     returns)

@@ -6,7 +6,7 @@ use Rattle.model.specs.Rule.{barred}
 use Rattle.hits.specs.Verdict.{byNumber}
 use Rattle.hits.specs.Said.{byteOf, sayInterval}
 use Rattle.hits.proofs.Comparisons.{meets-every, meets-none}
-use Rattle.hits.proofs.Verdicts.{filled-byte, painted-byte}
+use Rattle.hits.proofs.Verdicts.{scaled-byte, halves-byte, painted-byte}
 use Rattle.hits.proofs.intervals.interval_by_number.Statement.{statement}
 use Rattle.hits.proofs.intervals.interval_by_number.Tie as tie
 
@@ -68,11 +68,14 @@ returns c x imported p = rw (c .inside .ensures, c .before .enum-told .given .1,
 
 returns-2 : tie.Need-returns-2
 unfolding sayInterval byNumber byteOf ofBits neg
-returns-2 c x imported p = rw (c .inside2 .ensures, c .before .enum-told2 .given .1, meets-every x p) (sym (filled-byte imported _))
+returns-2 c x imported p = rw (c .inside2 .ensures, c .before .enum-told2 .given .1, meets-every x p) (sym (scaled-byte imported 0 _ _ _))
 
 returns-3 : tie.Need-returns-3
-unfolding sayInterval byNumber byteOf ofBits neg
-returns-3 c x imported p = rw (c .inside3 .ensures, c .before .enum-told3 .given .1, meets-every x p) (sym (filled-byte imported _))
+unfolding sayInterval ofBits neg
+returns-3 c x imported p =
+    let f = c .before .enum-told3 .given .0 in
+    rw (c .inside3 .ensures, c .before .enum-told3 .given .1, meets-every x p)
+    (sym (halves-byte (f .0) (f .1 .0) (f .1 .1 .0) (f .1 .1 .1 .0) (f .1 .1 .1 .1 .0) (f .1 .1 .1 .1 .1 .0) imported x))
 
 returns-4 : tie.Need-returns-4
 unfolding sayInterval byNumber byteOf ofBits neg barred

@@ -13,11 +13,11 @@ compare-columns-requires : tie.Need-compare-columns-requires
 compare-columns-requires c κs = tt
 
 -- what is known ahead of the comparisons, and right behind the call
-abbrev compared : tie.After-compare-columns → tie.After-slice-known16
-compared c = c .before .before .before .before .before .before .before .before .before .before
+abbrev compared : tie.After-compare-columns → tie.After-slice-known18
+compared c = c .before .before .before .before .before .before .before .before .before .before .before
 
-abbrev called : tie.After-slice-known16 → tie.After-resolve-conditional-paints
-called c = c .before .before .before .before .before .before .before .before .before .before .before .before .before .before .before .before
+abbrev called : tie.After-slice-known18 → tie.After-resolve-conditional-paints
+called c = c .before .before .before .before .before .before .before .before .before .before .before .before .before .before .before .before .before .before
 
 same-length : tie.Need-same-length
 same-length c = called (compared c) .resolve-conditional-paints .kept .1 .1 .1 .1 .1 .1 .1 .1 .1 .1 .1 .1 .1 .1 .0
@@ -43,6 +43,9 @@ same-length-7 c = called (compared c) .resolve-conditional-paints .kept .1 .1 .1
 same-length-8 : tie.Need-same-length-8
 same-length-8 c = called (compared c) .resolve-conditional-paints .kept .1 .1 .1 .1 .1 .1 .1 .1 .1 .1 .1 .1 .1 .1 .1 .1 .1 .1 .1 .1 .1 .0
 
+same-length-9 : tie.Need-same-length-9
+same-length-9 c = called (compared c) .resolve-conditional-paints .kept .1 .1 .1 .1 .1 .1 .1 .1 .1 .1 .1 .1 .1 .1 .1 .1 .1 .1 .1 .1 .1 .1 .0
+
 returns : tie.Need-returns
 returns c = tt
 
@@ -61,4 +64,5 @@ try-call-spec =
     same-length-6
     same-length-7
     same-length-8
+    same-length-9
     returns)

@@ -3,12 +3,18 @@
 use oracle::bench_jobs::places::{all, Placed};
 use oracle::clock::Clock;
 use oracle::library::wavendiru_whole_job_before;
+use oracle::report::without_shapes;
 
 use crate::measure::{deciding_time, lent_report, library, repeat, Call, Texts, Times};
 
 fn library_before(text: &[u8], lent: &mut [u8]) -> usize {
     // Both pointers are to slices of the lengths that the call is told.
     unsafe { wavendiru_whole_job_before(text.as_ptr(), text.len(), lent.as_mut_ptr(), lent.len()) }
+}
+
+/// The marks of an earlier archive's report may be without shapes.
+fn same_before(ours: &[u8], theirs: &[u8]) -> bool {
+    ours == theirs || ours == without_shapes(theirs)
 }
 
 /// The times of one archive up to the end of the checks and up to the last charge.
@@ -42,7 +48,7 @@ impl Compared {
         let Placed { kind, ranges, job } = &placed;
         let what = format!("{kind}, {ranges}, with {} cells and {} rules", job.cells.len(), job.rules.len());
         let texts = Texts::new(&what, job)?;
-        texts.confirm(&format!("{what}, before"), library_before)?;
+        texts.confirm_by(&format!("{what}, before"), library_before, same_before)?;
         texts.confirm(&format!("{what}, after"), library)?;
         let archives = [library_before, library].map(|call: Call| Archive::new(call));
         Ok(Compared { placed, texts, archives, original: Times::default() })

@@ -52,9 +52,9 @@ impl Read {
     }
 }
 
-/// The columns of marks (regions, rules, kinds, colours, ppms) and of bars (rules, ppms), and the scratch.
+/// The columns of marks (regions, rules, kinds, colours, ppms, shapes) and of bars (rules, ppms), and the scratch.
 struct Lent {
-    marks: [Vec<u32>; 5],
+    marks: [Vec<u32>; 6],
     bars: [Vec<u32>; 2],
     scratch: Vec<f64>,
 }
@@ -70,14 +70,15 @@ impl Lent {
         }
     }
 
-    /// What an answer has to leave.
+    /// What an answer has to leave. The shapes are those of shape.rs, all else is the original's.
     fn due(answer: &Answer, job: &Job) -> Self {
         let mut due = Lent::new(0, job);
         due.bars.iter_mut().for_each(|column| column.fill(0));
         due.scratch.fill(0.0);
         for mark in &answer.marks {
             let [red, green, blue] = mark.colour.map(u32::from);
-            let fields = [mark.region as u32, mark.rule as u32, mark.kind, red << 16 | green << 8 | blue, mark.ppm];
+            let colour = red << 16 | green << 8 | blue;
+            let fields = [mark.region as u32, mark.rule as u32, mark.kind, colour, mark.ppm, mark.shape.unwrap_or(0)];
             due.marks.iter_mut().zip(fields).for_each(|(column, field)| column.push(field));
         }
         for bar in &answer.bars {
@@ -95,7 +96,7 @@ impl Lent {
 /// Reads the text, then calls so many times: the count of the last answer.
 fn calls(text: &[u8], repeats: u64, widened: bool, read: &mut Read, lent: &mut Lent) -> u64 {
     let Read { rows, cols, kinds, wraps, nums, ats, lens, region_rows, region_cols, pool } = read;
-    let Lent { marks: [regions, rules, markkinds, colours, ppms], bars: [barrules, barppms], scratch } = lent;
+    let Lent { marks: [regions, rules, markkinds, colours, ppms, shapes], bars: [barrules, barppms], scratch } = lent;
     // Each pointer is to a slice of the length that the function is told.
     unsafe {
         columns_bench(
@@ -133,6 +134,8 @@ fn calls(text: &[u8], repeats: u64, widened: bool, read: &mut Read, lent: &mut L
             colours.len(),
             ppms.as_mut_ptr(),
             ppms.len(),
+            shapes.as_mut_ptr(),
+            shapes.len(),
             barrules.as_mut_ptr(),
             barrules.len(),
             barppms.as_mut_ptr(),
