@@ -1,4 +1,6 @@
 // Reads an operand that is typed as a cell reference (document 02, T-04).
+#![tactic(auto)]
+
 ghost use Rattle.std.specs.Prelude.{◌≤◌, ◌≡◌, true, [], length, drop};
 ghost use Rattle.std.proofs.lemmas.List.Edits.{sets};
 ghost use Rattle.a1text.specs.Bytes.{is_letter, is_word_byte, taken};
@@ -24,7 +26,7 @@ const MAX_COLUMNS: u64 = 16384;
 const MAX_ROWS: u64 = 1048576;
 
 // What reading an operand comes to. The name, if there is one, is at the start of the lent bytes.
-#[derive(Drop)]
+#[derive(Clone, Copy)]
 pub enum ReadReference {
     Read(A1Reference),
     // 14
@@ -35,7 +37,7 @@ pub enum ReadReference {
 
 // ---- the cell
 
-#[derive(Drop)]
+#[derive(Clone, Copy)]
 struct Mark {
     absolute: bool,
     next: usize,
@@ -104,7 +106,7 @@ fn column(s: &[u8], at: usize) -> Field
     column_found(number, q)
 }
 
-#[derive(Drop)]
+#[derive(Clone, Copy)]
 struct CellPart {
     ok: bool,
     row: u32,
@@ -157,7 +159,7 @@ fn cell_part(s: &[u8], at: usize) -> CellPart
 // ---- the name
 
 // What stands between quotes: whether they are closed with no control byte between them, and how many bytes the name has.
-#[derive(Drop)]
+#[derive(Clone, Copy)]
 struct Between {
     ok: bool,
     length: usize,
@@ -201,7 +203,7 @@ fn between_quotes(s: &[u8], at: usize) -> Between
 }
 
 // A sheet's name in front of a cell: where its first byte stands, how many bytes it has, and where the cell begins.
-#[derive(Drop)]
+#[derive(Clone, Copy)]
 struct NamePart {
     ok: bool,
     named: bool,

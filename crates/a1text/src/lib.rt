@@ -1,4 +1,6 @@
 // The bytes that a typed reference is made of. The grammar of references is in specs/.
+#![tactic(auto)]
+
 ghost use Rattle.std.specs.Prelude.{◌≡◌, ◌-◌};
 ghost use Rattle.a1text.specs.Bytes.{is_letter, is_word_byte, is_printable, raised};
 

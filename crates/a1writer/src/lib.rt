@@ -1,4 +1,6 @@
 // Writes a cell reference as a person types it (document 02, T-04).
+#![tactic(auto)]
+
 ghost use Rattle.std.specs.Prelude.{◌≡◌, not, ◌&&◌, length};
 ghost use Rattle.std.proofs.Math.Option.{some};
 ghost use Rattle.model.specs.Job.{bad_name};
@@ -22,7 +24,7 @@ const MAX_WORKSHEET_ROW: u32 = 1_048_575;
 const MAX_WORKSHEET_COLUMN: u16 = 16_383;
 
 // What writing a reference comes to.
-#[derive(Drop)]
+#[derive(Clone, Copy)]
 pub enum WrittenReference {
     // The text takes `length` of the lent bytes.
     Written { length: usize },

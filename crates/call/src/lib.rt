@@ -1,4 +1,6 @@
 // The call over lent columns: all that is lent for writing holds the complete result, or zeros.
+#![tactic(auto)]
+
 mod ahead;
 mod bands;
 mod columns;
@@ -27,7 +29,7 @@ use checks::Checked;
 use model::{Answer, Rules, Span, Test};
 
 // The cells or the regions in the rows of a rule's range: those from index `from` up to `to`.
-#[derive(Drop)]
+#[derive(Clone, Copy)]
 struct Band {
     from: usize,
     to: usize,
@@ -35,7 +37,7 @@ struct Band {
 
 // What a rule is decided to be: what the charges come to with its own, the test by which it paints, how many regions it paints, and 1 or 0
 // for a rule that counts as deferred and as simplified.
-#[derive(Drop)]
+#[derive(Clone, Copy)]
 struct Decided {
     charged: Charged,
     test: Test,

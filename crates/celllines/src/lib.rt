@@ -1,4 +1,6 @@
 // Cell lines of a job text, into lent columns, with the texts into a lent pool.
+#![tactic(auto)]
+
 mod stores;
 
 ghost use Rattle.std.specs.Prelude.{◌+◌, false, ◌&&◌, ◌≡◌, leb, length, replicate};
@@ -12,7 +14,7 @@ ghost use Rattle.celllines.specs.Lines.{IsValue, ValueStored, IsCell, CellStored
 use fields::Field;
 
 // A value as the columns hold it, the place after it, and up to where the pool is then used.
-#[derive(Drop)]
+#[derive(Clone, Copy)]
 struct ReadValue {
     ok: bool,
     kind: u8,
@@ -23,7 +25,7 @@ struct ReadValue {
     used: usize,
 }
 
-#[derive(Drop)]
+#[derive(Clone, Copy)]
 struct ReadCell {
     ok: bool,
     row: u32,
@@ -38,7 +40,7 @@ struct ReadCell {
 }
 
 // The place after some lines, and up to where the pool is then used; or the place at which they cannot be read on.
-#[derive(Drop)]
+#[derive(Clone, Copy)]
 struct LinesRead {
     ok: bool,
     next: usize,
@@ -46,7 +48,7 @@ struct LinesRead {
 }
 
 // The same, and whether all cells fit the columns and their texts the pool.
-#[derive(Drop)]
+#[derive(Clone, Copy)]
 pub struct Section {
     pub ok: bool,
     pub fits: bool,

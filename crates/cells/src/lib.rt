@@ -1,4 +1,6 @@
 // The cell at an index of the cell columns. Tables of places, which name cells by their indices, are defined beside it.
+#![tactic(auto)]
+
 ghost use Rattle.std.specs.Prelude.{ℕ, ◌≡◌, List};
 ghost use Rattle.model.specs.Sheet.{cell_from};
 ghost use Rattle.cells.specs.Columns.{columns};

@@ -1,15 +1,17 @@
 // The evaluation counter, and the outcome of a charge to it.
+#![tactic(auto)]
+
 ghost use Rattle.std.specs.Prelude.{◌≡◌, replicate};
 ghost use Rattle.charging.specs.Charge.{Charge, one, charge, spend};
 
 // How many evaluations have been charged. Port of `evaluations: &mut u64` (conditional.rs), held by value.
-#[derive(Drop)]
+#[derive(Clone, Copy)]
 pub struct Counter {
     pub count: u64,
 }
 
 // The outcome of a charge, with the counter that it leaves.
-#[derive(Drop)]
+#[derive(Clone, Copy)]
 pub enum Charged {
     Within(Counter),
     // Refusal 7, with the count that was compared with the limit.

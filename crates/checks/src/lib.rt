@@ -1,4 +1,6 @@
 // The checks 1 to 6 over lent columns (document 01, 'Turned back').
+#![tactic(auto)]
+
 ghost use Rattle.std.specs.Prelude.{◌≡◌, cond, [], ◌∷◌};
 ghost use Rattle.std.proofs.Math.Option.{none, some};
 ghost use Rattle.model.specs.Answer.{refusal, summary};
@@ -15,14 +17,14 @@ pub mod names;
 pub mod sheet;
 
 // The first index at which a test holds.
-#[derive(Drop)]
+#[derive(Clone, Copy)]
 pub enum Found {
     At(usize),
     Nothing,
 }
 
 // A refusal ahead of any charge, or none.
-#[derive(Drop)]
+#[derive(Clone, Copy)]
 pub enum Checked {
     Fine,
     Refused(Answer),

@@ -1,4 +1,6 @@
 // Comparison: the operators of a cell-is rule and of an expression, over any f64.
+#![tactic(auto)]
+
 ghost use Rattle.std.specs.Prelude.{◌≡◌};
 ghost use Rattle.model.specs.Comparison.{uses_second, between, not_between, compare_conditional, compare};
 

@@ -1,4 +1,6 @@
 // A job over lent columns and its report: the call with space of its own for 1,024 marks, regions and cells, and what it prints.
+#![tactic(auto)]
+
 ghost use Rattle.std.specs.Prelude.{◌≡◌, length};
 ghost use Rattle.checks.specs.Checked.{cell_columns, job_of};
 ghost use Rattle.memory.specs.Memory.{page, page_length};

@@ -1,4 +1,6 @@
 // The calls for C. include/wavendiru.h declares them.
+#![tactic(auto)]
+
 ghost use Rattle.std.specs.Prelude.{◌≡◌, length};
 ghost use Rattle.model.specs.Ratio.{ratio, channel};
 ghost use Rattle.memory.specs.Memory.{page, page_length};

@@ -1,5 +1,7 @@
 // Readers of the fields of a job text. Each takes the text and a place, and gives the value and the place after it, or the place
 // at which the text cannot be read on.
+#![tactic(auto)]
+
 ghost use Rattle.std.specs.Prelude.{◌+◌, ◌*◌, ◌%◌, ◌≤◌, true, false, ◌&&◌, [], ◌∷◌, ◌≡◌, length, drop, replicate};
 ghost use Rattle.std.proofs.lemmas.List.Edits.{sets};
 ghost use Rattle.memory.specs.Memory.{fits};
@@ -8,7 +10,7 @@ ghost use Rattle.grammar.specs.Numbers.{decimal_from, decimal_at, decimal_p, dig
 ghost use Rattle.fields.specs.Room.{roomy};
 ghost use Rattle.fields.specs.Field.{field_of, word_of, either_of, counted, text_of, pooled, pair_bytes};
 
-#[derive(Drop)]
+#[derive(Clone, Copy)]
 pub struct Field {
     pub ok: bool,
     pub value: u64,
@@ -16,7 +18,7 @@ pub struct Field {
 }
 
 // A text: its length, and whether all of it was stored.
-#[derive(Drop)]
+#[derive(Clone, Copy)]
 pub struct ReadText {
     pub ok: bool,
     pub fits: bool,

@@ -27,7 +27,7 @@ pub record Unread (w : List ℕ) (s : List ℕ) (at : ℕ) : Type 0 where
 
 -- no text of the grammar begins with w, whatever follows it
 pub record Never (w : List ℕ) {A : Type 0} (g : Gram A) : Type 0 where
-  pub never : (s : List ℕ) (at : ℕ) (a : A) (t : List ℕ) → g.row.Ok a → drop at s ≡ g.text a ++ t → Unread w s at
+  pub never : (s : List ℕ) (at : ℕ) (a : A) (t : List ℕ) → g.Ok a → drop at s ≡ g.text a ++ t → Unread w s at
 
 -- where another word stands, w is not read
 pub word_apart : (w v : List ℕ) (s : List ℕ) (at : ℕ) (t : List ℕ) → T (apart w v) → drop at s ≡ v ++ t → Unread w s at

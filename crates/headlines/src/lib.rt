@@ -1,11 +1,13 @@
 // The first two lines of a job text: their names, the five numbers, and the sheet's name.
+#![tactic(auto)]
+
 ghost use Rattle.std.specs.Prelude.{false, ◌≡◌, length};
 ghost use Rattle.jobtext.specs.Text.{head};
 ghost use Rattle.headlines.specs.Heads.{counts, counts_of, head_of, head_pooled};
 
 use fields::decimal;
 
-#[derive(Drop)]
+#[derive(Clone, Copy)]
 struct Counts {
     ok: bool,
     limit: u64,
@@ -18,7 +20,7 @@ struct Counts {
 
 // What the first two lines say, `name` being the length of the sheet's name, whether the name fits the pool, and the place after
 // them; or the place at which they cannot be read on.
-#[derive(Drop)]
+#[derive(Clone, Copy)]
 pub struct ReadHead {
     pub ok: bool,
     pub fits: bool,

@@ -1,4 +1,6 @@
 // Which regions a test paints, by columns of what is known of each region ahead of it. No mark is written here.
+#![tactic(auto)]
+
 mod intervals;
 mod said;
 
@@ -12,7 +14,7 @@ use crate::said::{literals, say};
 use model::{Range, Test};
 
 // The numbers from low to high, both included, or those outside of them.
-#[derive(Drop)]
+#[derive(Clone, Copy)]
 struct Interval {
     inside: bool,
     low: f64,
@@ -20,7 +22,7 @@ struct Interval {
 }
 
 // How two numbers are to stand to each other.
-#[derive(Drop)]
+#[derive(Clone, Copy)]
 struct Wanted {
     less: bool,
     same: bool,
@@ -29,7 +31,7 @@ struct Wanted {
 
 // Whether the tables fit the regions; whether the test is unresolved, and at which region first, past the last where it is not; and how
 // many regions it paints. Where the tables do not fit: false, 0 and 0.
-#[derive(Drop)]
+#[derive(Clone, Copy)]
 pub struct Found {
     pub fits: bool,
     pub unresolved: bool,

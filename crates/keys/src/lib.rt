@@ -1,5 +1,7 @@
 // Codes of equal keys, worked out once for a sheet: two cells have one code just when they have one key, so that keys are counted by
 // comparing numbers.
+#![tactic(auto)]
+
 mod coding;
 mod sort;
 mod table;

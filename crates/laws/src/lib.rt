@@ -1,1 +1,3 @@
 // Laws of the definitions of charging and model. No code.
+#![tactic(auto)]
+

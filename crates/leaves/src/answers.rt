@@ -4,7 +4,7 @@ use put::{put_byte, put_bytes, put_hex, put_number, put_text};
 use readings::number::is_finite;
 use readings::text::text_at;
 
-#[derive(Drop)]
+#[derive(Clone, Copy)]
 pub(crate) enum Answer {
     Number(u64),
     Float(f64),
@@ -18,7 +18,7 @@ pub(crate) enum Answer {
 }
 
 // An answer, and the place after its line.
-#[derive(Drop)]
+#[derive(Clone, Copy)]
 pub(crate) struct Answered {
     pub(crate) answer: Answer,
     pub(crate) next: usize,

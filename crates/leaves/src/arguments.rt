@@ -3,7 +3,7 @@ use fields::{Field, ReadText, bits, byte, decimal, text, word};
 use model::{A1Reference, Cell, SheetName, Span};
 use readings::number::{cell_value, float_of_bits, is_finite};
 
-#[derive(Drop)]
+#[derive(Clone, Copy)]
 pub(crate) struct FloatField {
     pub(crate) ok: bool,
     pub(crate) value: f64,
@@ -11,7 +11,7 @@ pub(crate) struct FloatField {
 }
 
 // A value in columns, as a cell has it: its kind, its bits, and its text in the pool or its bool as a length.
-#[derive(Drop)]
+#[derive(Clone, Copy)]
 struct Held {
     ok: bool,
     kind: u8,
@@ -22,7 +22,7 @@ struct Held {
 }
 
 // A cell, and how many bytes of the pool its text takes.
-#[derive(Drop)]
+#[derive(Clone, Copy)]
 pub(crate) struct CellField {
     pub(crate) ok: bool,
     pub(crate) cell: Cell,
@@ -31,7 +31,7 @@ pub(crate) struct CellField {
 }
 
 // Values in a slice: how many there are.
-#[derive(Drop)]
+#[derive(Clone, Copy)]
 pub(crate) struct ListField {
     pub(crate) ok: bool,
     pub(crate) number: usize,
@@ -39,21 +39,21 @@ pub(crate) struct ListField {
 }
 
 // Bytes that are in the pool.
-#[derive(Drop)]
+#[derive(Clone, Copy)]
 pub(crate) struct BytesField {
     pub(crate) ok: bool,
     pub(crate) span: Span,
     pub(crate) next: usize,
 }
 
-#[derive(Drop)]
+#[derive(Clone, Copy)]
 struct NameField {
     ok: bool,
     sheet: SheetName,
     next: usize,
 }
 
-#[derive(Drop)]
+#[derive(Clone, Copy)]
 pub(crate) struct ReferenceField {
     pub(crate) ok: bool,
     pub(crate) reference: A1Reference,

@@ -1,5 +1,7 @@
 // Answers argument lines of the leaves, one line for each, so that they can be compared with the original's answers. A line that is
 // none of theirs is told in place of its answer, and the program stops there.
+#![tactic(auto)]
+
 mod answers;
 mod arguments;
 mod lines;
@@ -16,7 +18,7 @@ use put::put_byte;
 
 // Lines on the way: how many bytes of the text wait for the rest of their line, where the next line begins, where the next answer goes,
 // how many lines are answered, and whether to go on.
-#[derive(Drop)]
+#[derive(Clone, Copy)]
 struct State {
     held: usize,
     at: usize,
@@ -195,7 +197,7 @@ fn answer_last(
 }
 
 // What came behind the bytes that wait.
-#[derive(Drop)]
+#[derive(Clone, Copy)]
 enum More {
     Filled(usize),
     Ended,

@@ -1,4 +1,6 @@
 // Total reads of lent columns, which past the end give 0, and zeros from end to end.
+#![tactic(auto)]
+
 ghost use Rattle.std.specs.Prelude.{◌≡◌, length, get_or, replicate};
 ghost use Rattle.model.specs.Ratio.{zero_f};
 

@@ -1,22 +1,24 @@
 // The declared types of a job: its sheet, its rules, what a rule comes to, and the answer.
 // Names are those of conditional.rs where it has them.
+#![tactic(auto)]
+
 
 // ---- the sheet
 
 // A text of the pool: `len` bytes from `at`.
-#[derive(Drop)]
+#[derive(Clone, Copy)]
 pub struct Span {
     pub at: u32,
     pub len: u32,
 }
 
-#[derive(Drop)]
+#[derive(Clone, Copy)]
 pub struct CellCoordinate {
     pub row: u32,
     pub col: u16,
 }
 
-#[derive(Drop)]
+#[derive(Clone, Copy)]
 pub enum CellValue {
     Number(f64),
     Date(f64),
@@ -26,21 +28,21 @@ pub enum CellValue {
 }
 
 // A cell: its innermost value, and how many boxes of `Cell::Formula` the Rust has around it.
-#[derive(Drop)]
+#[derive(Clone, Copy)]
 pub struct Cell {
     pub value: CellValue,
     pub wraps: u8,
 }
 
 // `Option<f64>`: what a cell or an operand reads as.
-#[derive(Drop)]
+#[derive(Clone, Copy)]
 pub enum Reading {
     Number(f64),
     Nothing,
 }
 
 // `Option<ConditionalValueKey>`. A text stays where it is in the pool; its letters count without regard to case.
-#[derive(Drop)]
+#[derive(Clone, Copy)]
 pub enum ConditionalValueKey {
     Number(u64),
     Text(Span),
@@ -51,7 +53,7 @@ pub enum ConditionalValueKey {
 // ---- the rules
 
 // A colour that a text can write, and no more.
-#[derive(Drop)]
+#[derive(Clone, Copy)]
 pub struct Rgb {
     pub red: u8,
     pub green: u8,
@@ -59,7 +61,7 @@ pub struct Rgb {
 }
 
 // First row, first column, last row, last column, all inclusive.
-#[derive(Drop)]
+#[derive(Clone, Copy)]
 pub struct Range {
     pub top: u32,
     pub left: u16,
@@ -68,13 +70,13 @@ pub struct Range {
 }
 
 // The sheet that a reference names. No name means this sheet.
-#[derive(Drop)]
+#[derive(Clone, Copy)]
 pub enum SheetName {
     This,
     Named(Span),
 }
 
-#[derive(Drop)]
+#[derive(Clone, Copy)]
 pub struct A1Reference {
     pub sheet: SheetName,
     pub row: u32,
@@ -84,27 +86,27 @@ pub struct A1Reference {
 }
 
 // `Option<u64>` of `offset_a1_axis`.
-#[derive(Drop)]
+#[derive(Clone, Copy)]
 pub enum Axis {
     At(u32),
     Outside,
 }
 
 // `Option<CellCoordinate>` of `conditional_reference_coordinate`.
-#[derive(Drop)]
+#[derive(Clone, Copy)]
 pub enum Referenced {
     At(CellCoordinate),
     Nowhere,
 }
 
-#[derive(Drop)]
+#[derive(Clone, Copy)]
 pub enum ConditionalOperand {
     Literal(f64),
     Reference(A1Reference),
     Unread,
 }
 
-#[derive(Drop)]
+#[derive(Clone, Copy)]
 pub enum DvOp {
     Between,
     NotBetween,
@@ -116,7 +118,7 @@ pub enum DvOp {
     LessThanOrEqual,
 }
 
-#[derive(Drop)]
+#[derive(Clone, Copy)]
 pub enum ConditionalComparison {
     Equal,
     NotEqual,
@@ -127,7 +129,7 @@ pub enum ConditionalComparison {
 }
 
 // Where a comparison is split: its operator, the operator's position and how many bytes it has.
-#[derive(Drop)]
+#[derive(Clone, Copy)]
 pub enum Split {
     At {
         op: ConditionalComparison,
@@ -137,7 +139,7 @@ pub enum Split {
     Nothing,
 }
 
-#[derive(Drop)]
+#[derive(Clone, Copy)]
 pub enum CfRule {
     CellIs {
         op: DvOp,
@@ -179,13 +181,13 @@ pub enum CfRule {
     },
 }
 
-#[derive(Drop)]
+#[derive(Clone, Copy)]
 pub enum Priority {
     Written(u32),
     Missing,
 }
 
-#[derive(Drop)]
+#[derive(Clone, Copy)]
 pub struct Rule {
     pub range: Range,
     pub priority: Priority,
@@ -195,7 +197,7 @@ pub struct Rule {
 }
 
 // The rules of a job: the first `number` of the records. What stands in the others has no meaning.
-#[derive(Drop)]
+#[derive(Clone, Copy)]
 pub struct Rules {
     pub records: [Rule; 64],
     pub number: usize,
@@ -204,7 +206,7 @@ pub struct Rules {
 // ---- what a rule comes to
 
 // What a region in range is tested against: the rule's kind, with what the values of its range come to.
-#[derive(Drop)]
+#[derive(Clone, Copy)]
 pub enum Test {
     CellIs {
         op: DvOp,
@@ -254,7 +256,7 @@ pub enum Test {
 }
 
 // A rule ahead of its regions: deferred, skipped, or the test of each region.
-#[derive(Drop)]
+#[derive(Clone, Copy)]
 pub enum Plan {
     Deferred,
     Skipped,
@@ -263,7 +265,7 @@ pub enum Plan {
 
 // What a ratio says of its ends: it is a place between them, they are flat, or their difference is not finite. `Ratio.antt` gives document
 // 02's number for each case.
-#[derive(Drop)]
+#[derive(Clone, Copy)]
 pub enum Shape {
     Plain,
     Flat,
@@ -271,7 +273,7 @@ pub enum Shape {
 }
 
 // A ratio: the place of a value between two ends, in parts per million, and what it says of the ends.
-#[derive(Drop)]
+#[derive(Clone, Copy)]
 pub struct Normalized {
     pub ppm: u32,
     pub shape: Shape,
@@ -279,7 +281,7 @@ pub struct Normalized {
 
 // A mark without its place, as the mark columns hold it: kind 1 fill, 2 imported style, 3 bar, 4 bar with imported style; shape the number
 // of its ratio's shape, 3 more in the upper half of a scale with three colours, 0 for rules other than scales and bars.
-#[derive(Drop)]
+#[derive(Clone, Copy)]
 pub struct Paint {
     pub kind: u32,
     pub colour: u32,
@@ -288,7 +290,7 @@ pub struct Paint {
 }
 
 // What a rule says of one region: it is stopped, it gets no mark, an operand reads to no number, or it gets a mark.
-#[derive(Drop)]
+#[derive(Clone, Copy)]
 pub enum Outcome {
     Stopped,
     Passed,
@@ -299,7 +301,7 @@ pub enum Outcome {
 // ---- the answer
 
 // The answer of the call over lent columns. `Answer.antt` gives document 01's number and values for each case.
-#[derive(Drop)]
+#[derive(Clone, Copy)]
 pub enum Answer {
     Answered {
         count: u64,

@@ -1,4 +1,6 @@
 // The place of each region's cell, found in one walk over the cells and the regions of a sheet.
+#![tactic(auto)]
+
 ghost use Rattle.std.specs.Prelude.{◌≤◌, ◌≡◌, ◌&&◌, leb, length, replicate};
 ghost use Rattle.std.proofs.lemmas.List.Edits.{sets};
 ghost use Rattle.cells.specs.Columns.{coordinate_at};
@@ -7,7 +9,7 @@ ghost use Rattle.places.specs.Walk.{standing, side, walk, walk_fits, walked, tab
 use model::CellCoordinate;
 
 // Where a cell stands against a region.
-#[derive(Drop)]
+#[derive(Clone, Copy)]
 enum Side {
     Before,
     At,
@@ -15,7 +17,7 @@ enum Side {
 }
 
 // How many comparisons a walk made.
-#[derive(Drop)]
+#[derive(Clone, Copy)]
 pub enum Walked {
     Compared(u64),
     Refused,

@@ -1,5 +1,7 @@
 // What a rule comes to ahead of its regions: the arms of resolve_conditional_paints (conditional.rs), each up to its loop over the regions.
 // The definitions are model's Rule.antt. An inverted range defers before any of this.
+#![tactic(auto)]
+
 ghost use Rattle.std.specs.Prelude.{◌≡◌, true, false, List, Float, length, replicate};
 ghost use Rattle.model.specs.declared.CfRule.{CfRule};
 ghost use Rattle.model.specs.Ratio.{zero_f};
@@ -15,7 +17,7 @@ use readings::number::is_finite;
 use values::Bounds;
 
 // What a rule comes to by values that are not moved: nothing is told where they would have to be put in order.
-#[derive(Drop)]
+#[derive(Clone, Copy)]
 pub enum Planned {
     Of(Plan),
     Unordered,

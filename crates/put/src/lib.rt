@@ -1,5 +1,7 @@
 // Text written into lent bytes, piece after piece: each function hands back the place behind its piece. A piece that does not fit leaves
 // zeros from end to end, and its place is the same: a text laid into no bytes at all is counted.
+#![tactic(auto)]
+
 ghost use Rattle.std.specs.Prelude.{◌<◌, ◌≡◌, [], ◌∷◌, ◌++◌, length};
 ghost use Rattle.memory.specs.Memory.{fits};
 ghost use Rattle.grammar.specs.Parts.{bytes};

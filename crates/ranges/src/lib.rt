@@ -1,4 +1,6 @@
 // What is in a rule's range: whether a coordinate is, and how many coordinates are.
+#![tactic(auto)]
+
 ghost use Rattle.std.specs.Prelude.{suc, ◌-◌, ◌≡◌};
 ghost use Rattle.model.specs.Sheet.{in_range, upright, within_grid, area};
 

@@ -7,7 +7,7 @@ use readings::number::is_finite;
 use std::num::nearest_u64_to_f64;
 
 // Where the value sought stands: its key is at least lo and less than hi, and so many values are below either.
-#[derive(Drop)]
+#[derive(Clone, Copy)]
 pub(crate) struct Span {
     pub(crate) lo: u64,
     pub(crate) hi: u64,
@@ -16,7 +16,7 @@ pub(crate) struct Span {
 }
 
 // About the least and the greatest value.
-#[derive(Drop)]
+#[derive(Clone, Copy)]
 struct Ends {
     least: f64,
     greatest: f64,

@@ -1,4 +1,6 @@
 // The value at a place of the values in order, found by counting: no value is moved and none is written.
+#![tactic(auto)]
+
 mod count;
 mod guess;
 mod key;

@@ -1,6 +1,8 @@
 // Ratio and colour: a value's place between two ends in parts per million, the shape that its ends give it, and a colour between two
 // colours. Scales and bars ask for place and colour once for each region, so up to 1,000,000 neither has a branch on the value, which a
 // processor would often guess wrong.
+#![tactic(auto)]
+
 ghost use Rattle.std.specs.Prelude.{◌≡◌, cond, ◌+◌, ◌-◌, ◌≤◌, min, T, leb, Float};
 ghost use Rattle.std.specs.Float.{binary64};
 ghost use Rattle.std.specs.Float.Ieee.{mul, le};

@@ -15,7 +15,7 @@ use Rattle.celllines.proofs.Sections.{Long}
 use Rattle.celllines.proofs.Whole.{blank_long}
 use Rattle.reader.specs.declared.ReadJob.{ReadJob}
 use Rattle.reader.specs.Held.{refused_as, taken_as, Held, held, fits_in, laid_in, cleared, read_job, held_after}
-use Rattle.reader.specs.Contracts.{JobLeft}
+use Rattle.reader.specs.Results.{JobLeft}
 
 -- a memory that is refused
 none_held : (j : Job) (h : Held) → laid_in false j h ≡ cleared h

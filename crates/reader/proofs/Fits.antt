@@ -15,7 +15,7 @@ use Rattle.jobtext.specs.Text.{Head, tail, body_t, body_of, cell_line, region_li
 use Rattle.jobtext.specs.Laid.{cell_bytes, rule_bytes, columns_from, laid}
 use Rattle.jobtext.proofs.Lengths.{ats_length}
 use Rattle.reader.specs.Held.{Held, fits_in}
-use Rattle.reader.specs.Contracts.{columns_fit, columns_in}
+use Rattle.reader.specs.Results.{columns_fit, columns_in}
 
 -- ---- the tests one by one
 

@@ -29,7 +29,7 @@ use Rattle.celllines.specs.Columns.{all_fit, pool_after as cellsPool}
 use Rattle.rulelines.specs.declared.RuleSection.{RuleSection}
 use Rattle.rulelines.specs.RuleSections.{no_section}
 use Rattle.reader.specs.Held.{Held, held}
-use Rattle.reader.specs.Contracts.{IsTail, columns_in, IsBody}
+use Rattle.reader.specs.Results.{IsTail, columns_in, IsBody}
 use Rattle.reader.proofs.Fits.{and_first, and_second, fitted}
 
 -- the names above the cells

@@ -22,7 +22,7 @@ use Rattle.grammar.proofs.Pairs.{length_pairs}
 use Rattle.headlines.specs.declared.ReadHead.{ReadHead}
 use Rattle.headlines.specs.Heads.{head_of, head_pooled}
 use Rattle.reader.specs.declared.Start.{Start}
-use Rattle.reader.specs.Contracts.{no_start, started, start_of, start_if, Named}
+use Rattle.reader.specs.Results.{no_start, started, start_of, start_if, Named}
 
 -- ---- three tests, one after the other, of which the first two came to `o`
 

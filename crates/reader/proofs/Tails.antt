@@ -25,7 +25,7 @@ use Rattle.regionlines.specs.Regions.{section_of as regionsOf}
 use Rattle.rulelines.specs.declared.RuleSection.{RuleSection}
 use Rattle.rulelines.specs.RuleSections.{no_section, rules_at, pool_after}
 use Rattle.rulelines.specs.RuleSections.{section_of as rules_of}
-use Rattle.reader.specs.Contracts.{IsTail}
+use Rattle.reader.specs.Results.{IsTail}
 
 -- the names above the regions, and those above the rules
 abbrev pub region_names : List ℕ

@@ -24,7 +24,7 @@ use Rattle.rulelines.specs.RuleSections.{section_of as rules_of}
 use Rattle.reader.specs.declared.Start.{Start}
 use Rattle.reader.specs.declared.ReadJob.{ReadJob}
 use Rattle.reader.specs.Held.{Held, held, refused_as, taken_as, fits_in, read_job}
-use Rattle.reader.specs.Contracts.{columns_in, IsBody, no_start, started, start_of, start_if, finished_if, finished, JobLeft}
+use Rattle.reader.specs.Results.{columns_in, IsBody, no_start, started, start_of, start_if, finished_if, finished, JobLeft}
 use Rattle.reader.proofs.Starts.{Begun}
 use Rattle.reader.proofs.Fits.{cells_number, regions_number, pool_number, fits_laid, pool_laid}
 

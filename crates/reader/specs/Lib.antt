@@ -1,2 +1,2 @@
 pub mod Held
-pub mod Contracts
+pub mod Results

@@ -1,4 +1,6 @@
 // A whole job text, into lent columns and a lent pool.
+#![tactic(auto)]
+
 ghost use Rattle.std.specs.Prelude.{◌≤◌, ◌&&◌, ◌||◌, ◌≡◌, leb, ltb, length};
 ghost use Rattle.grammar.specs.Gram.{line_of};
 ghost use Rattle.fields.specs.Room.{Room};
@@ -6,7 +8,7 @@ ghost use Rattle.celllines.specs.Columns.{columns};
 ghost use Rattle.jobtext.specs.Text.{head, tail, body_of};
 ghost use Rattle.jobtext.specs.Read.{max_text, read};
 ghost use Rattle.reader.specs.Held.{refused_as, read_job, held, held_after};
-ghost use Rattle.reader.specs.Contracts.{IsTail, IsBody, columns_fit, no_start, start_if, Named, finished, JobLeft};
+ghost use Rattle.reader.specs.Results.{IsTail, IsBody, columns_fit, no_start, start_if, Named, finished, JobLeft};
 
 use celllines::{clear_cells, read_cells};
 use model::{Rules, Span};
@@ -14,7 +16,7 @@ use rulelines::{RuleSection, no_rules};
 
 // A job as it was read, with its numbers of cells and regions and up to where the pool is used; or the number of the refusal, with the
 // line that is malformed or the starting count.
-#[derive(Drop)]
+#[derive(Clone, Copy)]
 pub struct ReadJob {
     pub number: u64,
     pub line: u64,
@@ -28,7 +30,7 @@ pub struct ReadJob {
 }
 
 // What the first two lines say, and the place after them; or the number of the refusal.
-#[derive(Drop)]
+#[derive(Clone, Copy)]
 struct Start {
     number: u64,
     line: u64,

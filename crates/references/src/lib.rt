@@ -1,4 +1,6 @@
 // References: the cell that an operand means from a region (document 01, 'References').
+#![tactic(auto)]
+
 ghost use Rattle.std.specs.Prelude.{ℕ, ◌<◌, ◌^◌, ◌≡◌};
 ghost use Rattle.model.specs.References.{offset_axis, axis as axisOf, same_name, names_sheet, joined as joinedOf, reference_coordinate};
 

@@ -1,4 +1,6 @@
 // Region lines of a job text, into two lent columns.
+#![tactic(auto)]
+
 mod stores;
 
 ghost use Rattle.std.specs.Prelude.{◌&&◌, ◌≡◌, leb};
@@ -6,7 +8,7 @@ ghost use Rattle.grammar.specs.Parts.{times_p};
 ghost use Rattle.jobtext.specs.Text.{region_line};
 ghost use Rattle.regionlines.specs.Regions.{IsRegion, AreRegions, section_of, rows_after, cols_after};
 
-#[derive(Drop)]
+#[derive(Clone, Copy)]
 struct ReadRegion {
     ok: bool,
     row: u32,
@@ -15,14 +17,14 @@ struct ReadRegion {
 }
 
 // The place after some lines, or the place at which they cannot be read on.
-#[derive(Drop)]
+#[derive(Clone, Copy)]
 struct LinesRead {
     ok: bool,
     next: usize,
 }
 
 // The same, and whether all regions fit the columns.
-#[derive(Drop)]
+#[derive(Clone, Copy)]
 pub struct RegionSection {
     pub ok: bool,
     pub fits: bool,

@@ -8,7 +8,7 @@ use std::num::wrapping_add_u64;
 pub(crate) const POOL: usize = 65536;
 
 // A text from byte k of the first pool on ends k bytes, k widths and at most one width more before the end of the second: so none overlap.
-#[derive(Drop)]
+#[derive(Clone, Copy)]
 pub(crate) struct Layout {
     pub(crate) seed: u64,
     pub(crate) width: u16,

@@ -17,7 +17,7 @@ pub(crate) const GOES_ON: u8 = 6;
 pub(crate) const UNREADABLE: u8 = 7;
 
 // A line `WORD NUMBER` of a list: its number, the place after it, and its fault, 0 for none.
-#[derive(Drop)]
+#[derive(Clone, Copy)]
 pub(crate) struct Line {
     pub(crate) number: u64,
     pub(crate) next: u64,
@@ -25,7 +25,7 @@ pub(crate) struct Line {
 }
 
 // Bytes of a list, at the start of a buffer: how many, the place after them, and their fault.
-#[derive(Drop)]
+#[derive(Clone, Copy)]
 pub(crate) struct Part {
     pub(crate) length: usize,
     pub(crate) next: u64,

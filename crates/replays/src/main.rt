@@ -1,5 +1,7 @@
 // Replays the lists that its arguments name: decides each job again and holds its report against the one in the list, saves it again, and
 // saves its columns with their free parts filled at random. Before them, one job text is read into memories of several lengths.
+#![tactic(auto)]
+
 mod freeparts;
 mod freerules;
 mod layout;
@@ -21,7 +23,7 @@ const REPORT: usize = 65536;
 
 // A list on the way: the place in it, how many jobs it has had and how many of them mismatched, what saving them again came to, how many
 // columns were filled and differed, and whether the list has ended or has a fault.
-#[derive(Drop)]
+#[derive(Clone, Copy)]
 struct State {
     at: u64,
     jobs: u64,

@@ -12,7 +12,7 @@ pub(crate) const REFUSED_ALIKE: u8 = 2;
 pub(crate) const DIFFERS: u8 = 3;
 
 // What saving again comes to, and the first byte that differs.
-#[derive(Drop)]
+#[derive(Clone, Copy)]
 pub(crate) struct Outcome {
     pub(crate) what: u8,
     pub(crate) place: usize,

@@ -1,4 +1,6 @@
 // The report of a job, as text in lent bytes.
+#![tactic(auto)]
+
 ghost use Rattle.std.specs.Prelude.{ℕ, min, ◌≡◌, cond, ◌++◌, length, take};
 ghost use Rattle.memory.specs.Memory.{page_of};
 ghost use Rattle.model.specs.Answer.{refusal, summary};
@@ -20,7 +22,7 @@ use ratio::bar_cells;
 // ---- the values of an answer
 
 // In the order of the report.
-#[derive(Drop)]
+#[derive(Clone, Copy)]
 struct Figures {
     number: u64,
     place: u64,

@@ -1,4 +1,6 @@
 // A job text read and saved again, with all memory between them its own.
+#![tactic(auto)]
+
 ghost use Rattle.std.specs.Prelude.{◌≡◌, length};
 ghost use Rattle.memory.specs.Memory.{page, page_length};
 ghost use Rattle.model.specs.Answer.{summary};

@@ -6,7 +6,7 @@ ghost use Rattle.rulelines.specs.RuleWords.{IsKind, made_scale2, made_scale3, ma
 use crate::parts::read_colour;
 use model::{CfRule, Rgb};
 
-#[derive(Drop)]
+#[derive(Clone, Copy)]
 pub(crate) struct ReadKind {
     pub(crate) ok: bool,
     pub(crate) kind: CfRule,

@@ -1,4 +1,6 @@
 // Rule lines of a job text, with the names of references into a lent pool.
+#![tactic(auto)]
+
 mod compared;
 mod kinds;
 mod operand;
@@ -18,7 +20,7 @@ use crate::parts::read_priority;
 use crate::words::read_kind;
 use model::{CfRule, Priority, Range, Rgb, Rule, Rules};
 
-#[derive(Drop)]
+#[derive(Clone, Copy)]
 struct ReadRule {
     ok: bool,
     rule: Rule,
@@ -131,7 +133,7 @@ fn read_rule(s: &[u8], at: usize, pool: &mut [u8], used: usize) -> ReadRule
 
 // The records, the place after the lines, up to where the pool is then used, and whether it is so long; or the place at which the lines
 // cannot be read on.
-#[derive(Drop)]
+#[derive(Clone, Copy)]
 pub struct RuleSection {
     pub ok: bool,
     pub fits: bool,

@@ -10,7 +10,7 @@ use fields::Field;
 use model::{A1Reference, ConditionalOperand, SheetName, Span};
 use readings::number::{float_of_bits, is_finite};
 
-#[derive(Drop)]
+#[derive(Clone, Copy)]
 pub(crate) struct ReadName {
     pub(crate) ok: bool,
     pub(crate) name: SheetName,
@@ -18,7 +18,7 @@ pub(crate) struct ReadName {
     pub(crate) used: usize,
 }
 
-#[derive(Drop)]
+#[derive(Clone, Copy)]
 pub(crate) struct ReadOperand {
     pub(crate) ok: bool,
     pub(crate) operand: ConditionalOperand,

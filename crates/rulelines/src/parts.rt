@@ -5,14 +5,14 @@ ghost use Rattle.rulelines.specs.Lines.{IsRgb, IsPriority};
 
 use model::{ConditionalComparison, DvOp, Priority, Rgb};
 
-#[derive(Drop)]
+#[derive(Clone, Copy)]
 pub(crate) struct ReadRgb {
     pub(crate) ok: bool,
     pub(crate) rgb: Rgb,
     pub(crate) next: usize,
 }
 
-#[derive(Drop)]
+#[derive(Clone, Copy)]
 pub(crate) struct ReadPriority {
     pub(crate) ok: bool,
     pub(crate) priority: Priority,

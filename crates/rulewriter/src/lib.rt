@@ -1,4 +1,6 @@
 // The section of rules of a job text, from the declared rules and the pool that holds their names.
+#![tactic(auto)]
+
 ghost use Rattle.std.specs.Prelude.{map, ◌++◌, take};
 ghost use Rattle.grammar.specs.Parts.{times_text};
 ghost use Rattle.jobtext.specs.Rules.{rule_line};

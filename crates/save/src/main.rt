@@ -1,11 +1,13 @@
 // Reads a job text from standard input and writes the text that its job is saved as to standard output, which is the same text; or the two
 // lines of a refused report. A line on standard error says where reading or writing fails.
+#![tactic(auto)]
+
 ghost use Rattle.io.specs.Counts.{IsPrefixLen};
 
 use libc::{STDIN_FILENO, STDOUT_FILENO};
 
 // How many bytes were read, and whether a read failed.
-#[derive(Drop)]
+#[derive(Clone, Copy)]
 struct Input {
     length: usize,
     failed: bool,

@@ -1,4 +1,6 @@
 // The call for C that saves a job, in an archive of its own. include/wavendiru.h declares it.
+#![tactic(auto)]
+
 ghost use Rattle.std.specs.Prelude.{◌≡◌, length};
 ghost use Rattle.memory.specs.Memory.{page, page_length};
 ghost use Rattle.jobtext.specs.Read.{read};

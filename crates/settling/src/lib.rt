@@ -1,4 +1,6 @@
 // The answer of a job whose rules have run, under the space for marks.
+#![tactic(auto)]
+
 ghost use Rattle.std.specs.Prelude.{◌≡◌};
 ghost use Rattle.settling.specs.Settling.{refused_with, told, settled_to};
 
@@ -6,7 +8,7 @@ use charging::Charged;
 use model::Answer;
 
 // What the rules came to: the charges, and how many marks, deferred and simplified rules there are.
-#[derive(Drop)]
+#[derive(Clone, Copy)]
 pub struct Ran {
     pub charged: Charged,
     pub marks: u32,
@@ -15,7 +17,7 @@ pub struct Ran {
 }
 
 // The answer, and whether the job is answered.
-#[derive(Drop)]
+#[derive(Clone, Copy)]
 pub struct Settled {
     pub answer: Answer,
     pub answered: bool,

@@ -1,4 +1,6 @@
 // The first two lines and the sections of cells and regions of a job text, from the lent columns and the pool.
+#![tactic(auto)]
+
 ghost use Rattle.std.specs.Prelude.{[], ◌∷◌, ◌++◌, length};
 ghost use Rattle.model.specs.Sheet.{text_at, regions_from};
 ghost use Rattle.grammar.specs.Parts.{times_text};

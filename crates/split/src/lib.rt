@@ -1,4 +1,6 @@
 // Split: where a comparison is split at its first operator outside quotes, over any bytes.
+#![tactic(auto)]
+
 ghost use Rattle.std.specs.Prelude.{◌≡◌, false, [], ◌∷◌, reverse, ◌≤◌, length, get_or, take, drop};
 ghost use Rattle.model.specs.Split.{blank, drop_blanks, trimmed, without_equals, formula, split_at, operator_at, scan, split, right_part, left_part};
 

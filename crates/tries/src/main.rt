@@ -1,4 +1,6 @@
 // Tries the compiled call on the lists that its arguments name: each value that it gives is held against the one in the list.
+#![tactic(auto)]
+
 mod columns;
 mod compare;
 mod jobs;

@@ -3,7 +3,7 @@ ghost use Rattle.std.specs.Prelude.{◌≡◌, ◌≤◌};
 
 // A list on the way: where the part of it that is at hand begins, where the reader stands in that part, the number that it read last,
 // its first fault (0 for none), the present job, the present run of that job, and how many runs, values and mismatches there were so far.
-#[derive(Drop)]
+#[derive(Clone, Copy)]
 pub(crate) struct State {
     pub(crate) from: u64,
     pub(crate) at: usize,
@@ -17,7 +17,7 @@ pub(crate) struct State {
 }
 
 // A number as it stands in a list: its value, the position past it, and what is wrong with it.
-#[derive(Drop)]
+#[derive(Clone, Copy)]
 struct Digits {
     value: u64,
     at: usize,

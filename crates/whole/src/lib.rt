@@ -1,4 +1,6 @@
 // A whole job: its text read, decided and printed, with all memory between them its own.
+#![tactic(auto)]
+
 ghost use Rattle.std.specs.Prelude.{◌≡◌, length};
 ghost use Rattle.memory.specs.Memory.{page, page_length};
 ghost use Rattle.reporttext.specs.Reports.{report_on};

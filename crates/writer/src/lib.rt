@@ -1,4 +1,6 @@
 // A job saved as text: the job text of lent columns, a pool, rules, a limit and a start, into lent bytes.
+#![tactic(auto)]
+
 ghost use Rattle.std.specs.Prelude.{◌≤◌, ◌≡◌, length};
 ghost use Rattle.checks.specs.Checked.{cell_columns, job_of};
 ghost use Rattle.laws.specs.Demands.{WellFormed};
@@ -16,7 +18,7 @@ use sheetwriter::{put_cells, put_head, put_regions};
 const MAX_TEXT: usize = 65536;
 
 // What saving a job comes to.
-#[derive(Drop)]
+#[derive(Clone, Copy)]
 pub enum Saved {
     // The text takes `length` of the lent bytes; the count is the start.
     Written { count: u64, length: usize },

@@ -1,0 +1,272 @@
+#!/usr/bin/env python3
+"""Turns the Proof.antt files of a crate, in the form with `tie.Need-..`, to Invariants.antt and Answers.antt.
+
+usage: tools/port/answers.py NAMES CRATE [WORD..]
+
+NAMES is the names.json that `rt check --generated DIR --old-names` writes in the crate's folder, CRATE that folder. Where words are given, only functions
+whose folder has one of them are turned. An answer that only searches is left out, since the check searches by itself. What is left by hand is
+printed; rt check decides.
+"""
+import glob
+import json
+import os
+import re
+import sys
+
+TOKEN = re.compile(r'--[^\n]*|"(?:[^"\\\n]|\\.)*"|[^\s(){}.;,@"«»]+|.', re.S)
+TRIVIAL = {"search rules", "tt", "search (rules)"}
+
+
+def plain(name):
+    return re.sub("-+", "-", name.replace("_", "-"))
+
+
+def blocks(text):
+    """Comments at the head, use lines, and declarations."""
+    head, uses, decls = [], [], []
+    text = re.sub(r"(?m)^(use [^\n{]*\{[^}]*\})", lambda m: " ".join(m[0].split()), text)
+    current = []
+    for line in text.split("\n"):
+        if line.startswith("use ") or line.startswith("pub use "):
+            uses.append(line)
+        elif line.startswith("--") and not uses and not decls and not current:
+            head.append(line)
+        else:
+            current.append(line)
+    body = "\n".join(current).strip("\n")
+    for block in re.split(r"\n\n+", body):
+        if not block.strip():
+            continue
+        # a block continues the one before where it is indented
+        if decls and block.startswith(" "):
+            decls[-1] += "\n\n" + block
+        else:
+            decls.append(block)
+    return head, uses, decls
+
+
+DECL = re.compile(r"(?ms)\A((?:--[^\n]*\n)*)((?:pub |abbrev |unfoldable )*)(\S+)((?: \{[^{}\n]*\})*)(?: :|\n +:)\s*(.*)\Z")
+
+
+class Function:
+    def __init__(self, of):
+        self.goals = {}
+        for old, new in of["needs"]:
+            self.goals.setdefault(plain(old), []).append(new)
+        self.steps = {}
+        self.places = {}
+        self.loops = of.get("loops", [])
+        for i, it in enumerate(of["places"]):
+            old, parent, (was, now) = it[0], it[1], it[2]
+            if was:
+                self.steps.setdefault(plain(was), now)
+            self.places[old] = (parent, was, now)
+        self.by_name = dict(zip([it[0] for it in of["places"]], of["places_by_name"]))
+
+
+def chains(text, f, note):
+    """Paths of a goal's record: no `before`, and the steps by their names now."""
+    pieces = TOKEN.findall(text)
+    out = []
+    i = 0
+    while i < len(pieces):
+        w = pieces[i]
+        if re.match(r"[^\W\d]", w) and i + 1 < len(pieces) and pieces[i + 1] == "." and not (i and pieces[i - 1] == "."):
+            # a chain
+            path = [w]
+            j = i + 1
+            while j + 1 < len(pieces) and pieces[j] == "." and re.match(r"[^\s(){}.;,@\"«»]", pieces[j + 1]):
+                path.append(pieces[j + 1])
+                j += 2
+            head, rest = path[0], path[1:]
+            if head[0].islower() and head not in ("tie",) and head not in note.modules:
+                had = "before" in rest
+                rest = [r for r in rest if r != "before"]
+                if rest and (had or head in note.records):
+                    k = plain(rest[0])
+                    if k in f.steps:
+                        rest[0] = f.steps[k]
+                    if len(rest) > 1 and rest[1] == "taken":
+                        rest[1] = "true"
+                    if len(rest) > 1 and rest[1] == "left":
+                        rest[1] = "false"
+            out.append(".".join([head, *rest]))
+            i = j
+            continue
+        out.append(w)
+        i += 1
+    return "".join(out)
+
+
+class Note:
+    def __init__(self, modules):
+        self.modules = modules
+        self.records = {"c"}
+
+
+def turn(crate, path, f, out_said):
+    proof = os.path.join(crate, "proofs", path, "Proof.antt")
+    text = open(proof, encoding="utf-8").read()
+    head, uses, decls = blocks(text)
+    name = os.path.basename(os.path.abspath(crate))
+    module = f"Rattle.{name}.proofs.{path.replace('/', '.')}"
+    aliases = {m[1] for u in uses for m in [re.search(r" as (\S+)$", u)] if m}
+    note = Note(aliases | {"Rattle", "tie"})
+    keep_uses = [u for u in uses if not re.search(r"\.(Tie|Statement|Lts)( as |\.\{)", u) or not u.startswith(f"use {module}.")]
+    renamed, order = {}, []
+    items = []
+    for block in decls:
+        m = DECL.match(block)
+        if not m:
+            items.append(("other", None, block, None))
+            continue
+        comments, words, own, implicit, rest = m.groups()
+        if re.match(r"tie\.Need", rest) :
+            items.append(("goal", own, block, m))
+        elif re.match(r"tie\.(invariant|decreases)", rest):
+            items.append((re.match(r"tie\.(invariant|decreases)", rest)[1], own, block, m))
+        elif re.search(r"\{M : Type 1\} → statement", rest):
+            continue
+        else:
+            items.append(("helper", own, block, m))
+    used = {}
+    for kind, own, block, m in items:
+        if kind == "goal":
+            k = plain(own)
+            new = None
+            if k in f.goals:
+                n = used.get(k, 0)
+                new = f.goals[k][min(n, len(f.goals[k]) - 1)]
+                used[k] = n + 1
+            if new:
+                renamed[own] = new
+    loops = [n for n in [it[1] if isinstance(it, list) else it for it in f.loops]]
+    loop_names = []
+    invs, answers, said = [], [], []
+    k = {"invariant": 0, "decreases": 0}
+    for kind, own, block, m in items:
+        if kind == "goal":
+            comments, words, _, implicit, rest = m.groups()
+            sig_end = rest.find("\n")
+            lines = rest.split("\n")
+            # the signature ends before `unfolding` or the first equation
+            body_at = next((i for i, l in enumerate(lines) if re.match(rf"(unfolding |{re.escape(own)}[ \n])", l + "\n")), None)
+            if body_at is None:
+                said.append(f"{path}: {own}: no equation found")
+                continue
+            unf = [l for l in lines[body_at:] if l.startswith("unfolding ")]
+            eq = "\n".join(lines[body_at + len(unf):])
+            mm = re.match(rf"{re.escape(own)}((?: [^\s=]+)*) =\s*(.*)\Z", eq, re.S)
+            if not mm:
+                said.append(f"{path}: {own}: equation not read")
+                continue
+            binders, body = mm[1].split(), mm[2]
+            if " ".join(body.split()) in TRIVIAL:
+                continue
+            if own not in renamed:
+                said.append(f"{path}: {own}: no such goal now; its answer: {' '.join(body.split())[:200]}")
+                answers.append(f"-- left: {own}\n" + "\n".join("-- " + l for l in (unf + eq.split("\n"))))
+                continue
+            binders = [b for b in binders if b != "κs"]
+            new = renamed[own]
+            # names bound to parts of the record
+            note.records = {"c", *re.findall(r"let (\w+) = c(?:\.before)*(?:\.args)? in", body), *re.findall(r"let (\w+) = \w+(?:\.before)+ in", body)}
+            body = chains(body, f, note)
+            sep = "\n    " if "\n" in mm[2] or eq[len(own) + len(mm[1]) + 2 : len(own) + len(mm[1]) + 4].strip() == "" else " "
+            answers.append(comments + f"pub {new} : goal.{new}\n" + "".join(u + "\n" for u in unf) + f"{new}{''.join(' ' + b for b in binders)} ={sep}{body.strip()}")
+        elif kind in ("invariant", "decreases"):
+            comments, words, _, implicit, rest = m.groups()
+            lines = rest.split("\n")
+            body_at = next((i for i, l in enumerate(lines) if l.startswith(own + " ")), None)
+            unf = [l for l in lines[:body_at] if l.startswith("unfolding ")]
+            eq = "\n".join(lines[body_at:])
+            mm = re.match(rf"{re.escape(own)}((?: [^\s=]+)*) =\s*(.*)\Z", eq, re.S)
+            binders, body = mm[1].split(), mm[2]
+            half = len(binders) // 2
+            sub = {}
+            for b in binders[:half]:
+                sub[b] = "l.initial." + b.rstrip("₀")
+            for b in binders[half:]:
+                sub[b] = "l." + b
+            pieces = TOKEN.findall(body)
+            res = []
+            for i, w in enumerate(pieces):
+                if w in sub and not (i and pieces[i - 1] == "."):
+                    # an argument of an application keeps its place
+                    res.append(sub[w])
+                else:
+                    res.append(w)
+            loop = loops[k[kind]] if k[kind] < len(loops) else own.split("-", 1)[1]
+            k[kind] += 1
+            new = f"{kind}-{loop}"
+            invs.append(comments + f"abbrev pub {new} : goal.{new}\n" + "".join(u + "\n" for u in unf) + f"{new} l = {''.join(res).strip()}")
+        else:
+            if block.strip():
+                answers.append(block)
+                said.append(f"{path}: kept as it is: {block.strip().splitlines()[0][:100]}")
+    folder = os.path.join(crate, "proofs", path)
+    header = "\n".join(head) + ("\n" if head else "")
+
+    def brought(body):
+        words = set(TOKEN.findall(re.sub(r"--[^\n]*", "", body)))
+        glyph = " ".join(words)
+        res = []
+        for u in keep_uses:
+            mu = re.match(r"use (\S+)\.\{(.*)\}$", u)
+            if not mu:
+                ma = re.match(r"use (\S+?)(?: as (\S+))?$", u)
+                alias = ma[2] or ma[1].split(".")[-1]
+                if alias in words:
+                    res.append(u)
+                continue
+            names = [n.strip() for n in re.split(r",\s*", mu[2]) if n.strip()]
+            kept = []
+            for n in names:
+                local = n.split(" as ")[-1]
+                parts = [x for x in re.split("◌", local) if x]
+                if local in words or "◌" in local and all(any(x in w for w in words) for x in parts):
+                    kept.append(n)
+            if kept:
+                res.append(f"use {mu[1]}.{{{', '.join(kept)}}}")
+        return res
+
+    if invs:
+        body = "\n\n".join(invs)
+        with open(os.path.join(folder, "Invariants.antt"), "w", encoding="utf-8") as o:
+            o.write(header + "\n".join(brought(body) + [f"use {module}.Given as goal"]) + "\n\n" + body + "\n")
+    if answers:
+        body = "\n\n".join(answers)
+        with open(os.path.join(folder, "Answers.antt"), "w", encoding="utf-8") as o:
+            o.write(("" if invs else header) + "\n".join(brought(body) + [f"use {module}.Goals as goal"]) + "\n\n" + body + "\n")
+    os.remove(proof)
+    if not os.listdir(folder):
+        os.rmdir(folder)
+    out_said += said
+
+
+def main():
+    names, crate, only = sys.argv[1], sys.argv[2].rstrip("/"), sys.argv[3:]
+    data = json.load(open(names, encoding="utf-8"))
+    name = os.path.basename(os.path.abspath(crate))
+    said = []
+    done = 0
+    for proof in sorted(glob.glob(f"{crate}/proofs/**/Proof.antt", recursive=True)):
+        path = os.path.relpath(os.path.dirname(proof), f"{crate}/proofs")
+        if only and not any(w in path for w in only):
+            continue
+        key = f"Rattle-{name}-proofs.{path.replace('/', '.')}.Lts"
+        if key not in data:
+            said.append(f"{path}: no {key} in the names")
+            continue
+        text = open(proof, encoding="utf-8").read()
+        if "tie.spec" not in text:
+            said.append(f"{path}: not in the form with tie.spec")
+            continue
+        turn(crate, path, Function(data[key]), said)
+        done += 1
+    print("\n".join(said))
+    print(f"{done} functions turned, {len(said)} things said")
+
+
+if __name__ == "__main__":
+    main()
