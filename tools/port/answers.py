@@ -14,7 +14,7 @@ import re
 import sys
 
 TOKEN = re.compile(r'--[^\n]*|"(?:[^"\\\n]|\\.)*"|[^\s(){}.;,@"«»]+|.', re.S)
-TRIVIAL = {"search rules", "tt", "search (rules)"}
+TRIVIAL = {"search rules", "search (rules)"}
 
 
 def plain(name):
@@ -50,21 +50,34 @@ DECL = re.compile(r"(?ms)\A((?:--[^\n]*\n)*)((?:pub |abbrev |unfoldable )*)(\S+)
 
 class Function:
     def __init__(self, of):
-        self.goals = {}
-        for old, new in of["needs"]:
+        self.goals, self.at = {}, {}
+        for (old, new), (place, _) in zip(of["needs"], of["asked_at"]):
             self.goals.setdefault(plain(old), []).append(new)
-        self.steps = {}
+            self.at[new] = place
+        # each place: the one before it, the step that leads to it, as it was and is called, and the names in an arm
         self.places = {}
-        self.loops = of.get("loops", [])
-        for i, it in enumerate(of["places"]):
-            old, parent, (was, now) = it[0], it[1], it[2]
+        for it, arm in zip(of["places"], of["arms"]):
+            self.places.setdefault(it[0], (it[1], it[2][0], it[2][1], arm))
+        self.calls = {it[2][1]: it[3] for it in of["places"] if it[3]}
+        self.callees = sorted(of["params"])
+        # each loop: its name, and its variables with whether the loop changes them
+        self.loops = [(it[0][1], list(zip(it[1], of["changed"][i]))) for i, it in enumerate(of.get("loops", []))]
+
+    def steps_at(self, place):
+        """The steps on the way to a place: names as they were to names now, and parts of arms."""
+        steps, parts = {}, {}
+        while place:
+            parent, was, now, arm = self.places[place]
             if was:
-                self.steps.setdefault(plain(was), now)
-            self.places[old] = (parent, was, now)
-        self.by_name = dict(zip([it[0] for it in of["places"]], of["places_by_name"]))
+                steps.setdefault(plain(was), now)
+            if arm:
+                for new, step, fields in arm[2]:
+                    parts.setdefault((plain(step), tuple(fields)), (arm[0], new))
+            place = parent
+        return steps, parts
 
 
-def chains(text, f, note):
+def chains(text, steps, parts, note):
     """Paths of a goal's record: no `before`, and the steps by their names now."""
     pieces = TOKEN.findall(text)
     out = []
@@ -84,8 +97,15 @@ def chains(text, f, note):
                 rest = [r for r in rest if r != "before"]
                 if rest and (had or head in note.records):
                     k = plain(rest[0])
-                    if k in f.steps:
-                        rest[0] = f.steps[k]
+                    part = next((n for n in range(len(rest) - 1, 0, -1) if (k, tuple(rest[1 : n + 1])) in parts), None)
+                    if part:
+                        arm, field = parts[k, tuple(rest[1 : part + 1])]
+                        rest = [arm, field, *rest[part + 1 :]]
+                    elif (k, ()) in parts and len(rest) > 1:
+                        rest = [*parts[k, ()], *rest[1:]]
+                    elif k in steps:
+                        rest[0] = steps[k]
+                    rest = [OWN.get(r, r) for r in rest]
                     if len(rest) > 1 and rest[1] == "taken":
                         rest[1] = "true"
                     if len(rest) > 1 and rest[1] == "left":
@@ -98,13 +118,90 @@ def chains(text, f, note):
     return "".join(out)
 
 
+def key_of(crate, path):
+    return crate, re.split(r"::|/", path)[-1]
+
+
+def clauses_of(root):
+    """The names of the requires and of the ensures of each function, where they have names."""
+    found = {}
+    for p in glob.glob(f"{root}/crates/*/src/**/*.rt", recursive=True):
+        crate = p[len(root) :].strip("/").split("/")[1]
+        text = re.sub(r"//[^\n]*", "", open(p, encoding="utf-8").read())
+        for m in re.finditer(r"\bfn (\w+)(.*?)(?=\n\s*\{\n|\n\})", text, re.S):
+            names = [re.findall(rf"\b{w}\*? (\w+) \{{", m[2]) for w in ("requires", "ensures")]
+            found[crate, m[1]] = names
+    return found
+
+
+def named(body, f, clauses, own):
+    """`.ensures.0` by the clause's name."""
+
+    def by(m):
+        step, what, n = m[1], m[2], int(m[3])
+        callee = f.calls.get(step)
+        names = clauses.get(key_of(callee.split("::")[0], callee), ([], []))[what == "ensures"] if callee else []
+        return f".{step}.{what}.{names[n]}" if n < len(names) else m[0]
+
+    body = re.sub(r"\.([\w+-]+)\.(ensures|requires)\.(\d+)", by, body)
+    return re.sub(r"\bc\.requires\.(\d+)", lambda m: f"c.requires.{own[0][int(m[1])]}" if int(m[1]) < len(own[0]) else m[0], body)
+
+
+def parts_of(text):
+    """The terms between the commas of a tuple's inside."""
+    out, depth, current = [], 0, ""
+    for w in TOKEN.findall(text):
+        if w in "([{":
+            depth += 1
+        elif w in ")]}":
+            depth -= 1
+        if w == "," and depth == 0:
+            out.append(current)
+            current = ""
+        else:
+            current += w
+    if current.strip():
+        out.append(current)
+    return out
+
+
+def recorded(body, names):
+    """A tuple at the end as a record of the clauses by their names."""
+    body = body.strip()
+    if len(names) < 2 or not body.endswith(")"):
+        return body
+    depth = 0
+    for i in range(len(body) - 1, -1, -1):
+        depth += (body[i] == ")") - (body[i] == "(")
+        if depth == 0:
+            break
+    before, inside = body[:i].rstrip(), body[i + 1 : -1]
+    terms = parts_of(inside)
+    if before and not re.search(r"(\bin|→|\.)$", before) or len(terms) != len(names):
+        return body
+    fields = "".join(f"      {n} = {t.strip()};\n" for n, t in zip(names, terms))
+    return (before + " " if before else "") + "record {\n" + fields + "    }"
+
+
+def inlined(body):
+    """Without names for the whole record."""
+    while True:
+        m = re.search(r"let (\w+) = c in\s*", body)
+        if not m:
+            return body
+        body = body[: m.start()] + re.sub(rf"(?<![\w.'-]){m[1]}(?![\w'-])", "c", body[m.end() :])
+
+
+OWN = {"well-formed": "well_formed", "type-inv": "type_inv", "yielded-by": "yielded_by"}
+
+
 class Note:
     def __init__(self, modules):
         self.modules = modules
         self.records = {"c"}
 
 
-def turn(crate, path, f, out_said):
+def turn(crate, path, f, clauses, out_said):
     proof = os.path.join(crate, "proofs", path, "Proof.antt")
     text = open(proof, encoding="utf-8").read()
     head, uses, decls = blocks(text)
@@ -132,7 +229,7 @@ def turn(crate, path, f, out_said):
     used = {}
     for kind, own, block, m in items:
         if kind == "goal":
-            k = plain(own)
+            k = re.sub(r"^(loop\d*)-(holds|less|again)", lambda x: x[1] + "-" + {"holds": "init", "less": "smaller", "again": "preserved"}[x[2]], plain(own))
             new = None
             if k in f.goals:
                 n = used.get(k, 0)
@@ -140,8 +237,6 @@ def turn(crate, path, f, out_said):
                 used[k] = n + 1
             if new:
                 renamed[own] = new
-    loops = [n for n in [it[1] if isinstance(it, list) else it for it in f.loops]]
-    loop_names = []
     invs, answers, said = [], [], []
     k = {"invariant": 0, "decreases": 0}
     for kind, own, block, m in items:
@@ -161,7 +256,7 @@ def turn(crate, path, f, out_said):
                 said.append(f"{path}: {own}: equation not read")
                 continue
             binders, body = mm[1].split(), mm[2]
-            if " ".join(body.split()) in TRIVIAL:
+            if not unf and " ".join(body.split()) in TRIVIAL or body.strip() == "tt" and "κs" in binders:
                 continue
             if own not in renamed:
                 said.append(f"{path}: {own}: no such goal now; its answer: {' '.join(body.split())[:200]}")
@@ -171,7 +266,16 @@ def turn(crate, path, f, out_said):
             new = renamed[own]
             # names bound to parts of the record
             note.records = {"c", *re.findall(r"let (\w+) = c(?:\.before)*(?:\.args)? in", body), *re.findall(r"let (\w+) = \w+(?:\.before)+ in", body)}
-            body = chains(body, f, note)
+            body = inlined(chains(body, *f.steps_at(f.at[new]), note))
+            # a test of a `!x` now speaks of x
+            body = re.sub(r"not-(false|true) (?:_|\w+\.[\w.-]+) (\w+(?:\.[\w-]+)*\.)\1(?![\w.])", r"\2\1", body)
+            body = named(body, f, clauses, clauses.get(key_of(name, path), ([], [])))
+            if new.startswith("returns"):
+                body = recorded(body, clauses.get(key_of(name, path), ([], []))[1])
+            elif "-requires" in new:
+                callee = next((it for it in f.callees if it.split("::")[-1] == re.split(r"-", new)[0]), None)
+                if callee:
+                    body = recorded(body, clauses.get(key_of(callee.split("::")[0], callee), ([], []))[0])
             sep = "\n    " if "\n" in mm[2] or eq[len(own) + len(mm[1]) + 2 : len(own) + len(mm[1]) + 4].strip() == "" else " "
             answers.append(comments + f"pub {new} : goal.{new}\n" + "".join(u + "\n" for u in unf) + f"{new}{''.join(' ' + b for b in binders)} ={sep}{body.strip()}")
         elif kind in ("invariant", "decreases"):
@@ -182,12 +286,16 @@ def turn(crate, path, f, out_said):
             eq = "\n".join(lines[body_at:])
             mm = re.match(rf"{re.escape(own)}((?: [^\s=]+)*) =\s*(.*)\Z", eq, re.S)
             binders, body = mm[1].split(), mm[2]
-            half = len(binders) // 2
+            loop, variables = f.loops[k[kind]]
+            k[kind] += 1
+            changed = [v for v, is_changed in variables if is_changed]
+            if len(binders) != len(variables) + len(changed):
+                said.append(f"{path}: {own}: {len(binders)} variables, and now {variables}")
             sub = {}
-            for b in binders[:half]:
-                sub[b] = "l.initial." + b.rstrip("₀")
-            for b in binders[half:]:
-                sub[b] = "l." + b
+            for b, (v, is_changed) in zip(binders, variables):
+                sub[b] = ("l.initial." if is_changed else "l.") + v
+            for b, v in zip(binders[len(variables) :], changed):
+                sub[b] = "l." + v
             pieces = TOKEN.findall(body)
             res = []
             for i, w in enumerate(pieces):
@@ -196,8 +304,6 @@ def turn(crate, path, f, out_said):
                     res.append(sub[w])
                 else:
                     res.append(w)
-            loop = loops[k[kind]] if k[kind] < len(loops) else own.split("-", 1)[1]
-            k[kind] += 1
             new = f"{kind}-{loop}"
             invs.append(comments + f"abbrev pub {new} : goal.{new}\n" + "".join(u + "\n" for u in unf) + f"{new} l = {''.join(res).strip()}")
         else:
@@ -249,6 +355,7 @@ def main():
     data = json.load(open(names, encoding="utf-8"))
     name = os.path.basename(os.path.abspath(crate))
     said = []
+    clauses = clauses_of(os.path.dirname(os.path.dirname(os.path.abspath(crate))))
     done = 0
     for proof in sorted(glob.glob(f"{crate}/proofs/**/Proof.antt", recursive=True)):
         path = os.path.relpath(os.path.dirname(proof), f"{crate}/proofs")
@@ -262,7 +369,7 @@ def main():
         if "tie.spec" not in text:
             said.append(f"{path}: not in the form with tie.spec")
             continue
-        turn(crate, path, Function(data[key]), said)
+        turn(crate, path, Function(data[key]), clauses, said)
         done += 1
     print("\n".join(said))
     print(f"{done} functions turned, {len(said)} things said")
