@@ -14,6 +14,7 @@ import re
 import sys
 
 TOKEN = re.compile(r'--[^\n]*|"(?:[^"\\\n]|\\.)*"|[^\s(){}.;,@"«»]+|.', re.S)
+TACTICS = {"rw", "simp", "subst", "omega", "search", "elim", "absurd", "grind", "cc", "record", "let", "λ", "⊎_elim", "unfold"}
 TRIVIAL = {"search rules", "search (rules)"}
 
 
@@ -60,6 +61,11 @@ class Function:
             self.places.setdefault(it[0], (it[1], it[2][0], it[2][1], arm))
         self.calls = {it[2][1]: it[3] for it in of["places"] if it[3]}
         self.callees = sorted(of["params"])
+        self.only = {}
+        for it in of["places"]:
+            if it[2][0]:
+                self.only.setdefault(plain(it[2][0]), set()).add(it[2][1])
+        self.only = {k: next(iter(v)) for k, v in self.only.items() if len(v) == 1}
         # each loop: its name, and its variables with whether the loop changes them
         self.loops = [(it[0][1], list(zip(it[1], of["changed"][i]))) for i, it in enumerate(of.get("loops", []))]
 
@@ -74,6 +80,8 @@ class Function:
                 for new, step, fields in arm[2]:
                     parts.setdefault((plain(step), tuple(fields)), (arm[0], new))
             place = parent
+        for k, v in self.only.items():
+            steps.setdefault(k, v)
         return steps, parts
 
 
@@ -122,6 +130,17 @@ def key_of(crate, path):
     return crate, re.split(r"::|/", path)[-1]
 
 
+def slices_of(root):
+    """The parameters of each function that are slices."""
+    found = {}
+    for p in glob.glob(f"{root}/crates/*/src/**/*.rt", recursive=True):
+        crate = p[len(root) :].strip("/").split("/")[1]
+        text = re.sub(r"//[^\n]*", "", open(p, encoding="utf-8").read())
+        for m in re.finditer(r"\bfn (\w+)\(([^)]*)\)", text):
+            found[crate, m[1]] = re.findall(r"(\w+): &(?:mut )?\[", m[2])
+    return found
+
+
 def clauses_of(root):
     """The names of the requires and of the ensures of each function, where they have names."""
     found = {}
@@ -143,7 +162,19 @@ def named(body, f, clauses, own):
         names = clauses.get(key_of(callee.split("::")[0], callee), ([], []))[what == "ensures"] if callee else []
         return f".{step}.{what}.{names[n]}" if n < len(names) else m[0]
 
+    def whole(m):
+        callee = f.calls.get(m[2])
+        names = clauses.get(key_of(callee.split("::")[0], callee), ([], []))[1] if callee else []
+        return "(" + ", ".join(f"{m[1]}.{m[2]}.ensures.{n}" for n in names) + ")" if len(names) > 1 else m[0]
+
+    def kept(m):
+        callee = f.calls.get(m[1])
+        names = f.slices.get(key_of(callee.split("::")[0], callee), []) if callee else []
+        return f".{m[1]}.auto.{names[int(m[2])]}" if int(m[2]) < len(names) else m[0]
+
     body = re.sub(r"\.([\w+-]+)\.(ensures|requires)\.(\d+)", by, body)
+    body = re.sub(r"(?<![\w.])(\w+)\.([\w+-]+)\.ensures(?![\w.-])", whole, body)
+    body = re.sub(r"\.([\w+-]+)\.auto\.(\d+)", kept, body)
     return re.sub(r"\bc\.requires\.(\d+)", lambda m: f"c.requires.{own[0][int(m[1])]}" if int(m[1]) < len(own[0]) else m[0], body)
 
 
@@ -168,7 +199,16 @@ def parts_of(text):
 def recorded(body, names):
     """A tuple at the end as a record of the clauses by their names."""
     body = body.strip()
-    if len(names) < 2 or not body.endswith(")"):
+    if len(names) < 2:
+        return body
+    tail = body
+    lets = re.match(r"(?s)((?:let .*?\bin\s+)*)(.*)\Z", body)
+    if lets and "let " not in lets[2]:
+        tail = lets[2]
+    if re.match(r"[^\W\d][\w']* ", tail) and tail.split()[0] not in TACTICS and "∙" not in tail:
+        fields = " ".join(f"{n} = told.{k};" for k, n in enumerate(names))
+        return body[: len(body) - len(tail)] + f"let told = {tail} in\n    record {{ {fields} }}"
+    if not body.endswith(")"):
         return body
     depth = 0
     for i in range(len(body) - 1, -1, -1):
@@ -264,11 +304,14 @@ def turn(crate, path, f, clauses, out_said):
                 continue
             binders = [b for b in binders if b != "κs"]
             new = renamed[own]
+            if new.startswith("shape_of-"):
+                continue
             # names bound to parts of the record
-            note.records = {"c", *re.findall(r"let (\w+) = c(?:\.before)*(?:\.args)? in", body), *re.findall(r"let (\w+) = \w+(?:\.before)+ in", body)}
+            note.records = {"c", *re.findall(r"let (\w+) =\s+\w+(?:\.before)*\s+in", body)}
             body = inlined(chains(body, *f.steps_at(f.at[new]), note))
             # a test of a `!x` now speaks of x
             body = re.sub(r"not-(false|true) (?:_|\w+\.[\w.-]+) (\w+(?:\.[\w-]+)*\.)\1(?![\w.])", r"\2\1", body)
+            body = re.sub(r"(?<![\w.])(c\.[\w-]+\.[\w-]+-own\.(?:keys\d+|rest))(?![\w.])", r"(opened \1)", body)
             body = named(body, f, clauses, clauses.get(key_of(name, path), ([], [])))
             if new.startswith("returns"):
                 body = recorded(body, clauses.get(key_of(name, path), ([], []))[1])
@@ -343,7 +386,8 @@ def turn(crate, path, f, clauses, out_said):
     if answers:
         body = "\n\n".join(answers)
         with open(os.path.join(folder, "Answers.antt"), "w", encoding="utf-8") as o:
-            o.write(("" if invs else header) + "\n".join(brought(body) + [f"use {module}.Goals as goal"]) + "\n\n" + body + "\n")
+            also = ["use borrow.Enum.Refused.{opened}"] if "(opened " in body else []
+            o.write(("" if invs else header) + "\n".join(brought(body) + also + [f"use {module}.Goals as goal"]) + "\n\n" + body + "\n")
     os.remove(proof)
     if not os.listdir(folder):
         os.rmdir(folder)
@@ -355,6 +399,7 @@ def main():
     data = json.load(open(names, encoding="utf-8"))
     name = os.path.basename(os.path.abspath(crate))
     said = []
+    slices = slices_of(os.path.dirname(os.path.dirname(os.path.abspath(crate))))
     clauses = clauses_of(os.path.dirname(os.path.dirname(os.path.abspath(crate))))
     done = 0
     for proof in sorted(glob.glob(f"{crate}/proofs/**/Proof.antt", recursive=True)):
@@ -369,7 +414,9 @@ def main():
         if "tie.spec" not in text:
             said.append(f"{path}: not in the form with tie.spec")
             continue
-        turn(crate, path, Function(data[key]), clauses, said)
+        function = Function(data[key])
+        function.slices = slices
+        turn(crate, path, function, clauses, said)
         done += 1
     print("\n".join(said))
     print(f"{done} functions turned, {len(said)} things said")

@@ -1,3 +1,2 @@
 // Laws of the definitions of charging and model. No code.
 #![tactic(auto)]
-

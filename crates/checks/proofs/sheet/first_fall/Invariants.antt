@@ -1,0 +1,14 @@
+-- `checks::sheet::first_fall` meets its contract. Where `any_fall` tells of none, there is no first. The loop's invariant: from `later`
+-- on the first fall is that of all. An index that does not fall leaves that to those after it. The measure is what is left of the
+-- length. Assumes nothing.
+use Prim.Native.Nat.{◌-◌, ◌<◌}
+use mathlib.Core.Path.{◌≡◌}
+use lib.ListN.{length}
+use Rattle.model.specs.Job.{first_from, falls_at, first_fall}
+use Rattle.checks.proofs.sheet.first_fall.Given as goal
+
+abbrev pub invariant-loop-later : goal.invariant-loop-later
+invariant-loop-later l = (0 < l.later) × (first_from (falls_at l.rows l.cols) l.later (length l.rows - l.later) ≡ first_fall l.rows l.cols)
+
+abbrev pub decreases-loop-later : goal.decreases-loop-later
+decreases-loop-later l = length l.rows - l.later

@@ -1,0 +1,42 @@
+-- `ratio::held_to_unit` meets its contract, by the laws of proofs/Held.antt. Assumes nothing.
+use mathlib.Core.Logic.{⊎_elim}
+use mathlib.Core.Path.{◌≡◌, sym, subst}
+use mathlib.Core.Bool.{true, false}
+use lib.Dec.{T}
+use lib.Ieee.{Float, lt, of_bits}
+use Rattle.model.specs.Ratio.{zero_f, one_f}
+use Rattle.ratio.proofs.Held.{Held, held_inside, held_above, held_below}
+use Rattle.ratio.proofs.held_to_unit.Goals as goal
+
+-- y, which is x or 0, is below 1
+inside : (x y : Float) → lt zero_f x ≡ true → y ≡ x → lt y one_f ≡ true → Held x y
+inside x y h is l = subst (λ (z : Float). Held x z) (sym is) (held_inside x h (subst (λ (z : Float). lt z one_f ≡ true) is l))
+
+below : (x y : Float) → lt zero_f x ≡ false → y ≡ zero_f → Held x y
+below x y h is = subst (λ (z : Float). Held x z) (sym is) (held_below x h)
+
+-- and here it is not
+above : (x y : Float) → lt zero_f x ≡ true → y ≡ x → lt y one_f ≡ false → Held x one_f
+above x y h is l = held_above x h (subst (λ (z : Float). lt z one_f ≡ false) is l)
+
+never : (x y : Float) → y ≡ zero_f → lt y one_f ≡ false → Held x one_f
+unfolding lt
+never x y is l = absurd (subst T (subst (λ (z : Float). lt z one_f ≡ false) is l) tt)
+
+pub returns-then-y : goal.returns-then-y
+unfolding of_bits
+returns-then-y c =
+    let x = c.args.x in
+    let h : Held x c.if-x.y = ⊎_elim (λ w. inside x _ w.0.taken w.1 c.if-y.true) (λ w. below x _ w.0.left w.1) c.if-x.branch in record {
+      unit = h.unit;
+      same = h.same;
+    }
+
+pub returns-else-y : goal.returns-else-y
+unfolding of_bits
+returns-else-y c =
+    let x = c.args.x in
+    let h : Held x one_f = ⊎_elim (λ w. above x _ w.0.taken w.1 c.if-y.false) (λ w. never x _ w.1 c.if-y.false) c.if-x.branch in record {
+      unit = h.unit;
+      same = h.same;
+    }

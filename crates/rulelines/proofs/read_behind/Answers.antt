@@ -1,0 +1,36 @@
+-- `rulelines::read_behind` meets its contract, field by field. Assumes nothing.
+use mathlib.Core.List.{[]}
+use Rattle.rulelines.proofs.RuleLines.{no_priority, no_stop, no_imported, kind_room, behind_answer}
+use Rattle.rulelines.proofs.read_behind.Goals as goal
+
+pub returns-then-not-p : goal.returns-then-not-p
+returns-then-not-p c = no_priority _ _ _ _ _ _ c.read_priority-p.ensures _ _ c.if-not-p.true c.no_rule.ensures
+
+pub returns-then-not-a : goal.returns-then-not-a
+returns-then-not-a c =
+    no_stop _ _ _ _ _ _ c.read_priority-p.ensures
+    c.if-not-p.false c.either_word-a.ensures _ _
+    c.if-not-a.true c.no_rule-then-not-a.ensures
+
+pub returns-then-not-b : goal.returns-then-not-b
+returns-then-not-b c =
+    no_imported _ _ _ _ _ _ c.read_priority-p.ensures c.if-not-p.false c.either_word-a.ensures
+    c.if-not-a.false c.either_word-b.ensures _ _
+    c.if-not-b.true c.no_rule-then-not-b.ensures
+
+pub read_kind-k-requires : goal.read_kind-k-requires
+read_kind-k-requires c =
+    kind_room c.args.range _ _ _ [] _ c.read_priority-p.ensures c.if-not-p.false c.either_word-a.ensures
+    c.if-not-a.false c.either_word-b.ensures
+    c.if-not-b.false c.requires
+
+pub shape_of-pool : goal.shape_of-pool
+shape_of-pool c = c.read_kind-k.auto.1.1.0
+
+pub returns : goal.returns
+returns c =
+    behind_answer _ _ _ _ _ _ c.read_priority-p.ensures
+    c.if-not-p.false c.either_word-a.ensures c.if-not-a.false
+    c.either_word-b.ensures
+    c.if-not-b.false c.read_kind-k.result _
+    c.read_kind-k.ensures.kind c.read_kind-k.ensures.pooled

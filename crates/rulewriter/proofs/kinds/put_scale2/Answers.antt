@@ -1,0 +1,19 @@
+-- `rulewriter::kinds::put_scale2` meets its contract: the word, then two colours. Assumes nothing.
+use mathlib.Core.Path.{refl}
+use Rattle.grammar.specs.Parts.{bytes}
+use Rattle.jobtext.specs.Rules.{scale2, kind}
+use Rattle.put.proofs.Laws.{laid_as, laid_length}
+use Rattle.rulewriter.proofs.Pieces.{laid_on}
+use Rattle.rulewriter.proofs.kinds.put_scale2.Goals as goal
+
+pub returns : goal.returns
+unfolding bytes scale2 kind
+returns c =
+    let lent = c.well_formed.0.1 in
+    laid_as (
+    laid_on c.put_bytes-word.ensures lent λ lent.
+    laid_on c.put_colour-first.ensures lent λ lent. c.put_colour.ensures)
+    refl
+
+pub shape_of-text : goal.shape_of-text
+shape_of-text c = laid_length (returns c)

@@ -1,0 +1,35 @@
+-- `rulewriter::operand::put_operand` meets its contract: in each arm the operand is known. Assumes nothing.
+use Rattle.grammar.specs.Parts.{bytes}
+use Rattle.jobtext.specs.Fields.{operand}
+use Rattle.jobtext.specs.Said.{literal_said, operand_said}
+use Rattle.put.proofs.Laws.{laid_as, laid_length}
+use Rattle.rulewriter.proofs.Pieces.{laid_on}
+use Rattle.rulewriter.proofs.Texts.{operand_as}
+use Rattle.rulewriter.proofs.operand.put_operand.Goals as goal
+
+pub returns-in-Literal : goal.returns-in-Literal
+unfolding literal_said operand_said
+returns-in-Literal c =
+    laid_as c.put_literal.ensures (operand_as _ c.in-Literal.is)
+
+pub shape_of-text-in-Literal : goal.shape_of-text-in-Literal
+shape_of-text-in-Literal c = laid_length (returns c)
+
+pub returns-in-Reference : goal.returns-in-Reference
+unfolding bytes operand operand_said
+returns-in-Reference c =
+    let lent = c.well_formed.0.1 in
+    laid_as (
+    laid_on c.put_byte-r.ensures lent λ lent. c.put_reference.ensures)
+    (operand_as _ c.in-Reference.is)
+
+pub shape_of-text-in-Reference : goal.shape_of-text-in-Reference
+shape_of-text-in-Reference c = laid_length (returns-2 c)
+
+pub returns-in-Unread : goal.returns-in-Unread
+unfolding bytes operand operand_said
+returns-in-Unread c =
+    laid_as c.put_bytes.ensures (operand_as _ c.in-Unread.is)
+
+pub shape_of-text-in-Unread : goal.shape_of-text-in-Unread
+shape_of-text-in-Unread c = laid_length (returns-3 c)
