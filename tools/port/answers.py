@@ -55,12 +55,14 @@ class Function:
         for (old, new), (place, _) in zip(of["needs"], of["asked_at"]):
             self.goals.setdefault(plain(old), []).append(new)
             self.at[new] = place
+        self.by_name = dict(zip([it[0] for it in of["places"]], of["places_by_name"]))
         # each place: the one before it, the step that leads to it, as it was and is called, and the names in an arm
         self.places = {}
         for it, arm in zip(of["places"], of["arms"]):
             self.places.setdefault(it[0], (it[1], it[2][0], it[2][1], arm))
         self.calls = {it[2][1]: it[3] for it in of["places"] if it[3]}
         self.callees = sorted(of["params"])
+        self.params = of["params"]
         self.only = {}
         for it in of["places"]:
             if it[2][0]:
@@ -103,6 +105,10 @@ def chains(text, steps, parts, note):
             if head[0].islower() and head not in ("tie",) and head not in note.modules:
                 had = "before" in rest
                 rest = [r for r in rest if r != "before"]
+                # a parameter's name
+                rest = [rest[0], *(r.replace("-", "_") if "-" in r and r.replace("-", "_") in note.rust else r for r in rest[1:])] if rest else rest
+                if head in note.args and rest and "-" in rest[0] and rest[0].replace("-", "_") in note.rust:
+                    rest[0] = rest[0].replace("-", "_")
                 if rest and (had or head in note.records):
                     k = plain(rest[0])
                     part = next((n for n in range(len(rest) - 1, 0, -1) if (k, tuple(rest[1 : n + 1])) in parts), None)
@@ -113,7 +119,11 @@ def chains(text, steps, parts, note):
                         rest = [*parts[k, ()], *rest[1:]]
                     elif k in steps:
                         rest[0] = steps[k]
+                    elif re.fullmatch(r"(.*\D)\d", k) and k[:-1] in steps:
+                        rest[0] = steps[k[:-1]]
                     rest = [OWN.get(r, r) for r in rest]
+                    if len(rest) > 1:
+                        rest[1] = {"last": "new", "kept": "auto", "inv": "invariant"}.get(rest[1], rest[1])
                     if len(rest) > 1 and rest[1] == "taken":
                         rest[1] = "true"
                     if len(rest) > 1 and rest[1] == "left":
@@ -155,12 +165,25 @@ def clauses_of(root):
 
 def named(body, f, clauses, own):
     """`.ensures.0` by the clause's name."""
+    bound = dict(re.findall(r"let (\w+) =\s+c\.([\w+-]+)\s+in", body))
 
     def by(m):
-        step, what, n = m[1], m[2], int(m[3])
-        callee = f.calls.get(step)
+        step, what, digits = m[1], m[2], m[3].strip(".").split(".")
+        callee = f.calls.get(bound.get(step, step))
         names = clauses.get(key_of(callee.split("::")[0], callee), ([], []))[what == "ensures"] if callee else []
-        return f".{step}.{what}.{names[n]}" if n < len(names) else m[0]
+        if step == "c" and what == "requires":
+            names = own[0]
+        if len(names) < 2:
+            return m[0]
+        k = 0
+        while k < len(names) - 1 and digits and digits[0] == "1":
+            k += 1
+            digits = digits[1:]
+        if k < len(names) - 1:
+            if not digits or digits[0] != "0":
+                return m[0]
+            digits = digits[1:]
+        return ".".join([step, what, names[k], *digits])
 
     def whole(m):
         callee = f.calls.get(m[2])
@@ -168,14 +191,16 @@ def named(body, f, clauses, own):
         return "(" + ", ".join(f"{m[1]}.{m[2]}.ensures.{n}" for n in names) + ")" if len(names) > 1 else m[0]
 
     def kept(m):
-        callee = f.calls.get(m[1])
-        names = f.slices.get(key_of(callee.split("::")[0], callee), []) if callee else []
-        return f".{m[1]}.auto.{names[int(m[2])]}" if int(m[2]) < len(names) else m[0]
+        callee = f.calls.get(bound.get(m[1], m[1]))
+        names = f.params.get(callee, []) if callee else []
+        n = m[3].count(".1")
+        return f"{m[1]}.{m[2]}.{names[n]}" if n < len(names) else m[0]
 
-    body = re.sub(r"\.([\w+-]+)\.(ensures|requires)\.(\d+)", by, body)
+    body = re.sub(r"(?<![\w+-])([\w+-]+)\.(ensures|requires)((?:\.\d)+)", by, body)
     body = re.sub(r"(?<![\w.])(\w+)\.([\w+-]+)\.ensures(?![\w.-])", whole, body)
-    body = re.sub(r"\.([\w+-]+)\.auto\.(\d+)", kept, body)
-    return re.sub(r"\bc\.requires\.(\d+)", lambda m: f"c.requires.{own[0][int(m[1])]}" if int(m[1]) < len(own[0]) else m[0], body)
+    body = re.sub(r"(?<![\w+-])([\w+-]+)\.(auto|new)((?:\.1)*)\.0(?!\.?\d)", kept, body)
+    # a test of a `!x` now speaks of x
+    return re.sub(r"not-(false|true) (?:_|\w+\.[\w.-]+) (\w+(?:\.[\w-]+)*\.)\1(?![\w.])", r"\2\1", body)
 
 
 def parts_of(text):
@@ -205,7 +230,7 @@ def recorded(body, names):
     lets = re.match(r"(?s)((?:let .*?\bin\s+)*)(.*)\Z", body)
     if lets and "let " not in lets[2]:
         tail = lets[2]
-    if re.match(r"[^\W\d][\w']* ", tail) and tail.split()[0] not in TACTICS and "∙" not in tail:
+    if re.match(r"[^\W\d][\w']* ", tail) and tail.split()[0] not in TACTICS and "∙" not in tail or re.match(r"rw \S+ at ", tail) and "∙" not in tail:
         fields = " ".join(f"{n} = told.{k};" for k, n in enumerate(names))
         return body[: len(body) - len(tail)] + f"let told = {tail} in\n    record {{ {fields} }}"
     if not body.endswith(")"):
@@ -217,10 +242,64 @@ def recorded(body, names):
             break
     before, inside = body[:i].rstrip(), body[i + 1 : -1]
     terms = parts_of(inside)
+    while len(terms) < len(names) and terms[-1].strip().startswith("(") and terms[-1].strip().endswith(")"):
+        last = parts_of(terms[-1].strip()[1:-1])
+        if len(last) < 2:
+            break
+        terms = terms[:-1] + last
     if before and not re.search(r"(\bin|→|\.)$", before) or len(terms) != len(names):
         return body
     fields = "".join(f"      {n} = {t.strip()};\n" for n, t in zip(names, terms))
     return (before + " " if before else "") + "record {\n" + fields + "    }"
+
+
+def place_of(f, name):
+    return next((p for p in f.places if plain(p) == plain(name)), None)
+
+
+def places_now(f, name, goals_used):
+    old = place_of(f, name)
+    new = f.by_name.get(old, name) if old else name
+    goals_used.add(new)
+    return new
+
+
+def branched(body, goals_used):
+    """A sum over the branches of a test, by the names of the branches."""
+
+    def to(m):
+        goals_used.update({f"then-{m[4]}", f"else-{m[4]}"})
+
+        def arm(text):
+            text = re.sub(r"\bw\.0\.(?:taken|true)\b", f"w.{m[3].split('.')[-1]}.true", text)
+            text = re.sub(r"\bw\.0\.(?:left|false)\b", f"w.{m[3].split('.')[-1]}.false", text)
+            text = re.sub(r"omega \(arith((?:, [^()]*)?)\)", lambda x: omega([i for i in x[1].split(", ")[1:] if not i.startswith("w.")]), text)
+            return text
+
+        def omega(items):
+            return f"omega (arith, {', '.join(items)})" if items else "omega arith"
+
+        return f"(elim {m[3]}.branch [ then-{m[4]} w ↦ {arm(m[1])} | else-{m[4]} w ↦ {arm(m[2])} ])"
+
+    group = r"\(λ w\.\s((?:[^()]|\((?:[^()]|\((?:[^()]|\([^()]*\))*\))*\))*)\)"
+    return re.sub(rf"⊎_elim\s+{group}\s+{group}\s+(\w+\.if-([\w-]+))\.branch", to, body)
+
+
+def opened_lets(body):
+    """Without names for what an arm or a call gives."""
+    while True:
+        m = re.search(r"let (\w+) =\s+((?:c|\w+)(?:\.[\w-]+)*\.given(?:\.[01])*)\s+in\s+", body)
+        if not m:
+            return body
+        body = body[: m.start()] + re.sub(rf"(?<![\w.'-]){m[1]}(?![\w'-])", lambda _: m[2], body[m.end() :])
+
+
+def depth(f, place, above):
+    n = 0
+    while place and place != above:
+        place = f.places[place][0]
+        n += 1
+    return n if place else None
 
 
 def inlined(body):
@@ -239,6 +318,8 @@ class Note:
     def __init__(self, modules):
         self.modules = modules
         self.records = {"c"}
+        self.args = set()
+        self.rust = set()
 
 
 def turn(crate, path, f, clauses, out_said):
@@ -249,6 +330,8 @@ def turn(crate, path, f, clauses, out_said):
     module = f"Rattle.{name}.proofs.{path.replace('/', '.')}"
     aliases = {m[1] for u in uses for m in [re.search(r" as (\S+)$", u)] if m}
     note = Note(aliases | {"Rattle", "tie"})
+    note.rust = f.rust
+    note.args = set(re.findall(r"let (\w+) =\s+\w+(?:\.before)*\.args\s+in", text))
     keep_uses = [u for u in uses if not re.search(r"\.(Tie|Statement|Lts)( as |\.\{)", u) or not u.startswith(f"use {module}.")]
     renamed, order = {}, []
     items = []
@@ -266,6 +349,12 @@ def turn(crate, path, f, clauses, out_said):
             continue
         else:
             items.append(("helper", own, block, m))
+    goals_used = set()
+    helpers = {}
+    for kind, own, block, m in items:
+        place = re.search(r"\btie\.([\w-]+)", block)
+        if kind == "helper" and place and place_of(f, place[1]):
+            helpers[own] = place_of(f, place[1])
     used = {}
     for kind, own, block, m in items:
         if kind == "goal":
@@ -306,13 +395,15 @@ def turn(crate, path, f, clauses, out_said):
             new = renamed[own]
             if new.startswith("shape_of-"):
                 continue
+            body = opened_lets(body)
             # names bound to parts of the record
             note.records = {"c", *re.findall(r"let (\w+) =\s+\w+(?:\.before)*\s+in", body)}
             body = inlined(chains(body, *f.steps_at(f.at[new]), note))
-            # a test of a `!x` now speaks of x
-            body = re.sub(r"not-(false|true) (?:_|\w+\.[\w.-]+) (\w+(?:\.[\w-]+)*\.)\1(?![\w.])", r"\2\1", body)
             body = re.sub(r"(?<![\w.])(c\.[\w-]+\.[\w-]+-own\.(?:keys\d+|rest))(?![\w.])", r"(opened \1)", body)
-            body = named(body, f, clauses, clauses.get(key_of(name, path), ([], [])))
+            body = branched(named(body, f, clauses, clauses.get(key_of(name, path), ([], []))), goals_used)
+            for h, at in helpers.items():
+                if at != f.at[new]:
+                    body = re.sub(rf"(?<![\w.'-]){re.escape(h)} c(?![\w.'-])", f"{h} (goal.at.{new} c).{f.by_name.get(at, at)}", body)
             if new.startswith("returns"):
                 body = recorded(body, clauses.get(key_of(name, path), ([], []))[1])
             elif "-requires" in new:
@@ -350,9 +441,22 @@ def turn(crate, path, f, clauses, out_said):
             new = f"{kind}-{loop}"
             invs.append(comments + f"abbrev pub {new} : goal.{new}\n" + "".join(u + "\n" for u in unf) + f"{new} l = {''.join(res).strip()}")
         else:
-            if block.strip():
-                answers.append(block)
-                said.append(f"{path}: kept as it is: {block.strip().splitlines()[0][:100]}")
+            place = re.search(r"\btie\.([\w-]+)", block)
+            if place:
+                old = place_of(f, place[1])
+                if not old:
+                    said.append(f"{path}: no place {place[1]}: {own}")
+                else:
+                    note.records = {"c", *re.findall(r"let (\w+) =\s+\w+(?:\.before)*\s+in", block)}
+                    block = re.sub(r"\btie\.([\w-]+)((?: (?:invariant|decreases)-loop\d*)*)", lambda x: places_now(f, x[1], goals_used), block)
+                    block = chains(opened_lets(block), *f.steps_at(old), note)
+                    for h, at in helpers.items():
+                        n = depth(f, old, at)
+                        if n and h != own:
+                            block = re.sub(rf"(?<![\w.'-]){re.escape(h)} c(?![\w.'-])", h + " c" + ".before" * n, block)
+                    block = re.sub(r"(?<![\w.])(c\.[\w-]+\.[\w-]+-own\.(?:keys\d+|rest))(?![\w.])", r"(opened \1)", block)
+                    block = branched(named(block, f, clauses, clauses.get(key_of(name, path), ([], []))), goals_used)
+            answers.append(block)
     folder = os.path.join(crate, "proofs", path)
     header = "\n".join(head) + ("\n" if head else "")
 
@@ -386,8 +490,10 @@ def turn(crate, path, f, clauses, out_said):
     if answers:
         body = "\n\n".join(answers)
         with open(os.path.join(folder, "Answers.antt"), "w", encoding="utf-8") as o:
+            goals = sorted(goals_used)
+            named_goals = [f"use {module}.Goals.{{{', '.join(goals)}}}"] if goals else []
             also = ["use borrow.Enum.Refused.{opened}"] if "(opened " in body else []
-            o.write(("" if invs else header) + "\n".join(brought(body) + also + [f"use {module}.Goals as goal"]) + "\n\n" + body + "\n")
+            o.write(("" if invs else header) + "\n".join(brought(body) + also + [f"use {module}.Goals as goal"] + named_goals) + "\n\n" + body + "\n")
     os.remove(proof)
     if not os.listdir(folder):
         os.rmdir(folder)
@@ -399,6 +505,9 @@ def main():
     data = json.load(open(names, encoding="utf-8"))
     name = os.path.basename(os.path.abspath(crate))
     said = []
+    rust = set()
+    for p in glob.glob(f"{os.path.dirname(os.path.dirname(os.path.abspath(crate)))}/crates/*/src/**/*.rt", recursive=True):
+        rust.update(re.findall(r"\w+", open(p, encoding="utf-8").read()))
     slices = slices_of(os.path.dirname(os.path.dirname(os.path.abspath(crate))))
     clauses = clauses_of(os.path.dirname(os.path.dirname(os.path.abspath(crate))))
     done = 0
@@ -416,6 +525,7 @@ def main():
             continue
         function = Function(data[key])
         function.slices = slices
+        function.rust = rust
         turn(crate, path, function, clauses, said)
         done += 1
     print("\n".join(said))

@@ -1,7 +1,7 @@
 -- The section of cells as a whole: its answer, its columns and its pool, read or refused. Assumes nothing.
 use Prim.Native.Nat.{ℕ, suc, ◌+◌, ◌≤◌}
 use mathlib.Core.Path.{◌≡◌, refl, sym, ap, ◌∙◌}
-use mathlib.Core.Bool.{Bool, true, false, not, ◌&&◌}
+use mathlib.Core.Bool.{Bool, true, false, ◌&&◌}
 use mathlib.Core.List.{List, [], ◌∷◌, map}
 use native.Mathlib.Omega.{arith}
 use lib.Dec.{leb}
@@ -39,16 +39,8 @@ use Rattle.celllines.specs.Columns.{
 }
 use Rattle.celllines.proofs.Sections.{columns_eq, Long}
 
-so : (b : Bool) → not b ≡ false → b ≡ true
-so true e = refl
-so false e = let w : ◌≡◌ {A = ℕ} 0 1 = cc in absurd (omega arith)
-
-not_so : (b : Bool) → not b ≡ true → b ≡ false
-not_so false e = refl
-not_so true e = let w : ◌≡◌ {A = ℕ} 0 1 = cc in absurd (omega arith)
-
-pub lines_room : (s : List ℕ) (at used : ℕ) {b : Bool} → b ≡ roomy s at used → not b ≡ false → Room s at used
-lines_room s at used {b} x y = roomy_room s at used (sym x ∙ so b y)
+pub lines_room : (s : List ℕ) (at used : ℕ) {b : Bool} → b ≡ roomy s at used → b ≡ true → Room s at used
+lines_room s at used {b} x y = roomy_room s at used (sym x ∙ y)
 
 -- zeros of columns that kept their lengths
 pub blank_long : (d e : CellColumns) → Long d e → zero_columns d ≡ zero_columns e
@@ -146,10 +138,10 @@ module _ (s : List ℕ) (at n used : ℕ) (d : CellColumns) (pool : List ℕ) wh
   abbrev Says : Got (List CellLine) → Section → CellColumns → List ℕ → Type 0
   Says g r e after = (r ≡ section_of used g d pool) × ((e ≡ columns_after used g d pool) × (after ≡ pool_after used g d pool))
 
-  pub no_room : {b : Bool} (e : CellColumns) (after : List ℕ) → b ≡ roomy s at used → not b ≡ true → e ≡ zero_columns d → after ≡ zeroed pool
+  pub no_room : {b : Bool} (e : CellColumns) (after : List ℕ) → b ≡ roomy s at used → b ≡ false → e ≡ zero_columns d → after ≡ zeroed pool
       → Says (cells_at s at n used) (record { ok = false; fits = false; next = at; used = 0 }) e after
   unfolding cells_at
-  no_room {b} e after x y i j = rw (sym x ∙ not_so b y) (refl, (i, j))
+  no_room {b} e after x y i j = rw (sym x ∙ y) (refl, (i, j))
 
   abbrev lines : Got (List CellLine)
   lines = times_p n cell_line.parse s at
@@ -158,7 +150,7 @@ module _ (s : List ℕ) (at n used : ℕ) (d : CellColumns) (pool : List ℕ) wh
   number cs q e = times_length cell_line.Ok n cs ((times_exact cell_exact n).ok s at cs q e)
 
   -- d₁: the columns cleared; d₂ and pool₂: what the lines left; m: all cells are within the columns; f: and the texts within the pool
-  module _ {b : Bool} (x : b ≡ roomy s at used) (y : not b ≡ false) (r : LinesRead) (d₁ d₂ : CellColumns) (pool₂ : List ℕ)
+  module _ {b : Bool} (x : b ≡ roomy s at used) (y : b ≡ true) (r : LinesRead) (d₁ d₂ : CellColumns) (pool₂ : List ℕ)
       (m : Bool) {f : Bool} (clean : d₁ ≡ zero_columns d) (i : IsLeft (left_of 0 used lines d₁ pool) r d₂ pool₂)
       (kept₁ : Long d₁ d) (kept₂ : Long d₂ d₁) (deep : length pool₂ ≡ length pool) (em : m ≡ held_if r.ok n d₂)
       (ef : f ≡ (m && leb r.used (length pool₂))) where
@@ -175,7 +167,7 @@ module _ (s : List ℕ) (at n used : ℕ) (d : CellColumns) (pool : List ℕ) wh
 
     in_room : cells_at s at n used ≡ lines
     unfolding cells_at
-    in_room = rw (sym x ∙ so b y)
+    in_room = rw (sym x ∙ y)
 
     fit : f ≡ (held_if r.ok n d && leb r.used (length pool))
     fit = ef ∙ rw (em, long.rows, long.cols, long.kinds, long.wraps, long.nums, long.ats, long.lens, deep)
@@ -183,36 +175,30 @@ module _ (s : List ℕ) (at n used : ℕ) (d : CellColumns) (pool : List ℕ) wh
     abbrev answer : Section
     answer = record { ok = r.ok; fits = f; next = r.next; used = r.used }
 
-    pub lines_read : not f ≡ false → Says (cells_at s at n used) answer d₂ pool₂
-    lines_read z = rw in_room (go lines refl i)
+    pub lines_read : f ≡ true → Says (cells_at s at n used) answer d₂ pool₂
+    lines_read held_so = rw in_room (go lines refl i)
       where
-        yes : f ≡ true
-        yes = so f z
-
         go : (g : Got (List CellLine)) → lines ≡ g → IsLeft (left_of 0 used g d₁ pool) r d₂ pool₂ → Says g answer d₂ pool₂
         go (got cs q) e i =
             let k : length cs ≡ n = number cs q e in
             let u = used + length (cell_bytes cs) in
-            let h : (held (length cs) d && leb u (length pool)) ≡ true = rw k (rw i.0 at (sym fit ∙ yes)) in
+            let h : (held (length cs) d && leb u (length pool)) ≡ true = rw k (rw i.0 at (sym fit ∙ held_so)) in
             let w = both_so (held (length cs) d) (leb u (length pool)) h in
             let v : u ≤ length pool = leb-true _ _ w.1 in
             rw h (
-              rw (i.0, yes),
+              rw (i.0, held_so),
               (
                 i.1 ∙ rw clean (pages_alone used cs d (inside (length cs) d w.0)),
                 i.2 (omega (arith, length-sets pool used (cell_bytes cs))) ∙ sym (all_fits 0 pool used (cell_bytes cs) v),
               ),
             )
-        go (bad p) e i = clash f false yes refl (fit ∙ rw i)
+        go (bad p) e i = clash f false held_so refl (fit ∙ rw i)
 
     -- what was cleared after it had been read into
-    pub lines_refused : (e : CellColumns) (after : List ℕ) → not f ≡ true → e ≡ zero_columns d₂ → after ≡ zeroed pool₂
+    pub lines_refused : (e : CellColumns) (after : List ℕ) → f ≡ false → e ≡ zero_columns d₂ → after ≡ zeroed pool₂
         → Says (cells_at s at n used) answer e after
-    lines_refused e after z j o = rw in_room (go lines refl i)
+    lines_refused e after held_not j o = rw in_room (go lines refl i)
       where
-        no : f ≡ false
-        no = not_so f z
-
         cleared : after ≡ zeroed pool
         cleared = o ∙ ap (λ (l : ℕ). replicate l 0) deep
 
@@ -220,12 +206,12 @@ module _ (s : List ℕ) (at n used : ℕ) (d : CellColumns) (pool : List ℕ) wh
         go (got cs q) t i =
             let k : length cs ≡ n = number cs q t in
             let u = used + length (cell_bytes cs) in
-            let h : (held (length cs) d && leb u (length pool)) ≡ false = rw k (rw i.0 at (sym fit ∙ no)) in
+            let h : (held (length cs) d && leb u (length pool)) ≡ false = rw k (rw i.0 at (sym fit ∙ held_not)) in
             rw h (
-              rw (i.0, no),
+              rw (i.0, held_not),
               (
                 j ∙ (blank_long d₂ d long ∙ pages_refused (columns_from used cs) d),
                 cleared ∙ sym (all_refused 0 pool used (cell_bytes cs)),
               ),
             )
-        go (bad p) t i = (rw (i, no), (j ∙ blank_long d₂ d long, cleared))
+        go (bad p) t i = (rw (i, held_not), (j ∙ blank_long d₂ d long, cleared))

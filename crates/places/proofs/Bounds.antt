@@ -5,10 +5,10 @@ use mathlib.Core.Path.{◌≡◌, refl, ap}
 use mathlib.Core.Bool.{Bool, true, false, cond}
 use mathlib.Core.List.{List, [], ◌∷◌}
 use native.Mathlib.Omega.{arith}
-use lib.ListN.{length, get_or, replicate}
+use lib.ListN.{length, get_or, drop, replicate}
 use Rattle.model.specs.declared.CellCoordinate.{CellCoordinate}
 use Rattle.model.specs.Sheet.{same_coordinate}
-use Rattle.places.specs.Walk.{before, walk_from, walk}
+use Rattle.places.specs.Walk.{before, passed, walk_from, walk}
 use Rattle.places.proofs.Steps.{walk_passes, walk_enters, walk_no_regions, walk_no_cells, by_steps}
 
 -- ---- comparisons
@@ -36,7 +36,9 @@ walk_few cells regions = omega (arith, walk_fewer cells regions)
 from_entries : (i : ℕ) (cells regions : List CellCoordinate) → length (walk_from i cells regions).places ≡ length regions
 unfolding walk_from
 from_entries i cells [] = refl
-from_entries i cells (r ∷ rs) = ap suc (from_entries _ _ rs)
+from_entries i cells (r ∷ rs) =
+    let n = passed r cells in
+    ap suc (from_entries (i + n) (drop n cells) rs)
 
 pub walk_entries : (cells regions : List CellCoordinate) → length (walk cells regions).places ≡ length regions
 walk_entries cells regions = from_entries 0 cells regions

@@ -92,14 +92,6 @@ length_cols rs = length-map rs (λ (r : CellCoordinate). r.col)
 alone : (n : ℕ) (xs : List ℕ) → length xs ≤ n → sets (replicate n 0) 0 xs ≡ page_of true n xs
 alone n xs h = sym (all_fits 0 (replicate n 0) 0 xs (omega (arith, length-replicate {A = ℕ} n 0)))
 
-true_so : (b : Bool) → not b ≡ false → b ≡ true
-true_so true e = refl
-true_so false e = clash true false refl refl e
-
-false_so : (b : Bool) → not b ≡ true → b ≡ false
-false_so false e = refl
-false_so true e = clash true false refl refl (sym e)
-
 both_so : (a b : Bool) → (a && b) ≡ true → (a ≡ true) × (b ≡ true)
 both_so true b e = (refl, e)
 both_so false b e = clash true false refl refl (sym e)
@@ -123,12 +115,9 @@ module _ (s : List ℕ) (at n : ℕ) (rows cols : List ℕ) where
     fit : f ≡ ((r.ok && leb n (length rows)) && leb n (length cols))
     fit = ef ∙ rw (eb, long.0, long.1)
 
-    pub lines_read : not f ≡ false → Says lines (record { ok = r.ok; fits = f; next = r.next }) rows₂ cols₂
-    lines_read z = go lines refl i
+    pub lines_read : f ≡ true → Says lines (record { ok = r.ok; fits = f; next = r.next }) rows₂ cols₂
+    lines_read so = go lines refl i
       where
-        so : f ≡ true
-        so = true_so f z
-
         go : (g : Got (List CellCoordinate)) → lines ≡ g → AreRegions 0 g rows₁ cols₁ r rows₂ cols₂
             → Says g (record { ok = r.ok; fits = f; next = r.next }) rows₂ cols₂
         go (got rs q) e i =
@@ -146,13 +135,10 @@ module _ (s : List ℕ) (at n : ℕ) (rows cols : List ℕ) where
             )
         go (bad p) e i = clash f false so refl (fit ∙ rw i.0)
 
-    pub lines_refused : (rows₃ cols₃ : List ℕ) → not f ≡ true → rows₃ ≡ replicate (length rows₂) 0 → cols₃ ≡ replicate (length cols₂) 0
+    pub lines_refused : (rows₃ cols₃ : List ℕ) → f ≡ false → rows₃ ≡ replicate (length rows₂) 0 → cols₃ ≡ replicate (length cols₂) 0
         → Says lines (record { ok = r.ok; fits = f; next = r.next }) rows₃ cols₃
-    lines_refused rows₃ cols₃ z j k = go lines refl i
+    lines_refused rows₃ cols₃ so j k = go lines refl i
       where
-        so : f ≡ false
-        so = false_so f z
-
         go : (g : Got (List CellCoordinate)) → lines ≡ g → AreRegions 0 g rows₁ cols₁ r rows₂ cols₂
             → Says g (record { ok = r.ok; fits = f; next = r.next }) rows₃ cols₃
         go (got rs q) e i =

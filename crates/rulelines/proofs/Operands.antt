@@ -165,22 +165,22 @@ module _ (f : Field) (at used : ℕ) where
       go true z = let w : ◌≡◌ {A = ℕ} 0 1 = cc in absurd (omega arith)
 
   pub literal_infinite : {v : Float} {b : Bool} (r : ReadOperand) → not f.ok ≡ false → v ≡ of_bits binary64 f.value → b ≡ finite v
-      → not b ≡ true → (r.ok ≡ false) × (r.next ≡ at) → IsLiteral (finite_bits f.value) f at used r
+      → b ≡ false → (r.ok ≡ false) × (r.next ≡ at) → IsLiteral (finite_bits f.value) f at used r
   unfolding finite_bits
   literal_infinite {v} {b} r x ev eb y z = go f.ok (finite (of_bits binary64 f.value)) x (rw (← ev, ← eb) y)
     where
-      go : (ok is : Bool) → not ok ≡ false → not is ≡ true → literal_if ok is f at used r
+      go : (ok is : Bool) → not ok ≡ false → is ≡ false → literal_if ok is f at used r
       go true false i j = z
       go true true i j = let w : ◌≡◌ {A = ℕ} 0 1 = cc in absurd (omega arith)
       go false is i j = let w : ◌≡◌ {A = ℕ} 0 1 = cc in absurd (omega arith)
 
-  pub literal_finite : {v : Float} {b : Bool} → not f.ok ≡ false → v ≡ of_bits binary64 f.value → b ≡ finite v → not b ≡ false
+  pub literal_finite : {v : Float} {b : Bool} → not f.ok ≡ false → v ≡ of_bits binary64 f.value → b ≡ finite v → b ≡ true
       → IsLiteral (finite_bits f.value) f at used
       (record { ok = true; operand = ConditionalOperand.Literal v; next = f.next; used = used })
   unfolding finite_bits
   literal_finite {v} {b} x ev eb y = go f.ok (finite (of_bits binary64 f.value)) x (rw (← ev, ← eb) y)
     where
-      go : (ok is : Bool) → not ok ≡ false → not is ≡ false → literal_if ok is f at used
+      go : (ok is : Bool) → not ok ≡ false → is ≡ true → literal_if ok is f at used
           (record { ok = true; operand = ConditionalOperand.Literal v; next = f.next; used = used })
       go true true i j = rw ev
       go true false i j = let w : ◌≡◌ {A = ℕ} 0 1 = cc in absurd (omega arith)

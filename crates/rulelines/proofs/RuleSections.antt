@@ -158,15 +158,15 @@ module _ (s : List ℕ) (at n used : ℕ) (pool : List ℕ) where
   Section r after =
       (r ≡ section_of used (length pool) (rules_at s at n used)) × (after ≡ pool_after used (rules_at s at n used) pool)
 
-  pub no_room : {b : Bool} {r : RuleSection} {after : List ℕ} → b ≡ (roomy s at used && leb n 64) → not b ≡ true
+  pub no_room : {b : Bool} {r : RuleSection} {after : List ℕ} → b ≡ (roomy s at used && leb n 64) → b ≡ false
       → after ≡ replicate (length pool) 0 → r ≡ no_section at → Section r after
   unfolding rules_at
-  no_room {b} x y i e = rw (sym x ∙ not-true b y) (e, i)
+  no_room {b} x y i e = rw (sym x ∙ y) (e, i)
 
-  module _ {b : Bool} (x : b ≡ (roomy s at used && leb n 64)) (y : not b ≡ false) {r : RuleSection}
+  module _ {b : Bool} (x : b ≡ (roomy s at used && leb n 64)) (y : b ≡ true) {r : RuleSection}
       (e : r ≡ answer_of (rules_left 0 used (times_p n rule_line.parse s at) (replicate 64 blank_rule)) (length pool) n) where
     small : n ≤ 64
-    small = leb-true n 64 (and_second (roomy s at used) (leb n 64) (sym x ∙ not-false b y))
+    small = leb-true n 64 (and_second (roomy s at used) (leb n 64) (sym x ∙ y))
 
     abbrev lines : Got (List RuleLine)
     lines = times_p n rule_line.parse s at
@@ -186,7 +186,7 @@ module _ (s : List ℕ) (at n used : ℕ) (pool : List ℕ) where
     -- the names are within the pool
     pub lines_read : (after : List ℕ) → Pooled rule_bytes lines used pool after → not r.fits ≡ false → Section r after
     unfolding rules_at
-    lines_read after p z = rw (sym x ∙ not-false b y) (answered, go lines answered p)
+    lines_read after p z = rw (sym x ∙ y) (answered, go lines answered p)
       where
         go : (g : Got (List RuleLine)) → r ≡ section_of used (length pool) g → Pooled rule_bytes g used pool after
             → after ≡ pool_after used g pool
@@ -198,7 +198,7 @@ module _ (s : List ℕ) (at n used : ℕ) (pool : List ℕ) where
     -- they are not, or a line is malformed
     pub lines_cleared : {after : List ℕ} → after ≡ replicate (length pool) 0 → not r.fits ≡ true → Section r after
     unfolding rules_at
-    lines_cleared {after} i z = rw (sym x ∙ not-false b y) (answered, i ∙ go lines answered)
+    lines_cleared {after} i z = rw (sym x ∙ y) (answered, i ∙ go lines answered)
       where
         go : (g : Got (List RuleLine)) → r ≡ section_of used (length pool) g → replicate (length pool) 0 ≡ pool_after used g pool
         go (got rs q) k =
@@ -207,7 +207,7 @@ module _ (s : List ℕ) (at n used : ℕ) (pool : List ℕ) where
         go (bad p) k = refl
 
 -- the bounds hold where the test does
-pub lines_room : (s : List ℕ) (at n used : ℕ) {b : Bool} → b ≡ (roomy s at used && leb n 64) → not b ≡ false → Room s at used × (n ≤ 64)
+pub lines_room : (s : List ℕ) (at n used : ℕ) {b : Bool} → b ≡ (roomy s at used && leb n 64) → b ≡ true → Room s at used × (n ≤ 64)
 lines_room s at n used {b} x y =
-    let e = sym x ∙ not-false b y in
+    let e = sym x ∙ y in
     (roomy_room s at used (and_first (roomy s at used) (leb n 64) e), leb-true n 64 (and_second (roomy s at used) (leb n 64) e))

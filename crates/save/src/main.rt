@@ -2,36 +2,47 @@
 // lines of a refused report. A line on standard error says where reading or writing fails.
 #![tactic(auto)]
 
-ghost use Rattle.io.specs.Counts.{IsPrefixLen};
+ghost use Rattle.std.specs.Prelude.{◌≡◌, ◌<◌, ◌≤◌, None, length, take};
+ghost use Rattle.std.specs.Io.KnownBytes.{Consumes, IsAtEnd};
 
-use libc::{STDIN_FILENO, STDOUT_FILENO};
+use std::io;
+use std::io::{Read, Write};
 
-// How many bytes were read, and whether a read failed.
-#[derive(Clone, Copy)]
+// How many bytes were read, and why the reading failed, if it did.
+#[derive(Drop)]
 struct Input {
     length: usize,
-    failed: bool,
+    failure: Option<io::Error>,
 }
 
-fn read_some(part: &mut [u8]) -> Input
-    ensures { IsPrefixLen result.length part.new }
+fn read_some<R: Read>(reader: &mut R, part: &mut [u8]) -> Input
+    ensures count { result.length ≤ length part.new }
+    ensures bytes { Consumes (R.remaining reader.old) (R.remaining reader.new) (take result.length part.new) }
+    ensures end { result.failure ≡ None → result.length ≡ 0 → 0 < length part.new → IsAtEnd (R.remaining reader.new) }
 {
-    let got = libc::read(STDIN_FILENO, part);
-    Input {
-        length: io::count(got, part),
-        failed: got < 0,
+    match reader.read(part) {
+        Ok(length) => Input {
+            length,
+            failure: None,
+        },
+        Err(e) => Input {
+            length: 0,
+            failure: Some(e),
+        },
     }
 }
 
 // Reads until the input ends, a read fails or there is no room.
-fn read_text(text: &mut [u8]) -> Input
-    ensures { IsPrefixLen result.length text.new }
+fn read_text<R: Read>(reader: &mut R, text: &mut [u8]) -> Input
+    ensures count { result.length ≤ length text.new }
+    ensures bytes { Consumes (R.remaining reader.old) (R.remaining reader.new) (take result.length text.new) }
+    ensures end { result.failure ≡ None → result.length < length text.new → IsAtEnd (R.remaining reader.new) }
 {
     let mut done = 0;
-    let mut failed = false;
+    let mut failure = None;
     while done < text.len() {
-        let more = read_some(&mut text[done..]);
-        failed = more.failed;
+        let more = read_some(reader, &mut text[done..]);
+        failure = more.failure;
         if more.length == 0 {
             break;
         }
@@ -39,31 +50,34 @@ fn read_text(text: &mut [u8]) -> Input
     }
     Input {
         length: done,
-        failed,
+        failure,
     }
 }
 
 // The saved text or a refused report: how many of the lent bytes it takes.
 fn save_text(text: &[u8], saved: &mut [u8]) -> usize
-    ensures { IsPrefixLen result saved.new }
+    ensures { result ≤ length saved.new }
 {
     resave::save_job(text, saved)
 }
 
-fn main() {
+fn main(rt: HostRuntime) -> io::Result<()> {
     // one byte more than a job text may have
     let mut text = [0u8; 65537];
-    let input = read_text(&mut text);
-    if input.failed {
-        os::fail(b"save: reading standard input");
-        return;
+    let input = read_text(&mut rt.stdin(), &mut text);
+    if let Some(e) = input.failure {
+        let _ = eprintln!(rt; "save: reading standard input: {e}");
+        return Err(e);
     }
     let length = input.length;
     // the longest job text
     let mut saved = [0u8; 65536];
     let n = save_text(&text[..length], &mut saved);
-    let written = io::write_all(STDOUT_FILENO, &saved[..n]);
-    if !written {
-        os::fail(b"save: writing standard output");
+    match io::writer(&rt).write_all(&saved[..n]) {
+        Ok(()) => Ok(()),
+        Err(e) => {
+            let _ = eprintln!(rt; "save: writing standard output: {e}");
+            Err(e)
+        }
     }
 }

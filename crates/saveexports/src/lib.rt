@@ -1,4 +1,4 @@
-// The call for C that saves a job, in an archive of its own. include/wavendiru.h declares it.
+// The call for C that saves a job, which the crate `saveexports_c` puts into an archive of its own. include/wavendiru.h declares it.
 #![tactic(auto)]
 
 ghost use Rattle.std.specs.Prelude.{◌≡◌, length};
@@ -8,8 +8,7 @@ ghost use Rattle.savedtext.specs.Resaved.{resaved};
 
 // The text of the job that a job text says, which is the same text, or the two lines of a refused report: its length, 0 where it is longer
 // than the lent bytes.
-#[unsafe(no_mangle)]
-pub extern "C" fn wavendiru_save_job(text: &[u8], saved: &mut [u8]) -> usize
+pub fn wavendiru_save_job(text: &[u8], saved: &mut [u8]) -> usize
     ensures length { result ≡ page_length (length saved.old) (resaved (length saved.old) (read text.now)) }
     ensures bytes { saved.new ≡ page (length saved.old) (resaved (length saved.old)
         (read text.now)) }

@@ -6,20 +6,23 @@ use Rattle.celllines.proofs.Cells.{no_row, no_col, no_wraps, value_room, cell_an
 use Rattle.celllines.proofs.read_cell.Goals as goal
 
 pub returns-then-not-row : goal.returns-then-not-row
-returns-then-not-row c = no_row _ _ _ _ c.decimal-row.ensures _ c.if-not-row.true c.no_cell.ensures
+returns-then-not-row c = let told = no_row _ _ _ _ c.decimal-row.ensures _ c.if-not-row.true c.no_cell.ensures in
+    record { cell = told.0; cell_stored = told.1 }
 
 pub returns-then-not-col : goal.returns-then-not-col
 returns-then-not-col c =
-    no_col _ _ _ _ c.decimal-row.ensures
+    let told = no_col _ _ _ _ c.decimal-row.ensures
     c.if-not-row.false c.decimal-col.ensures _ c.if-not-col.true
-    c.no_cell-then-not-col.ensures
+    c.no_cell-then-not-col.ensures in
+    record { cell = told.0; cell_stored = told.1 }
 
 pub returns-then-not-wraps : goal.returns-then-not-wraps
 returns-then-not-wraps c =
-    no_wraps _ _ _ _ c.decimal-row.ensures
+    let told = no_wraps _ _ _ _ c.decimal-row.ensures
     c.if-not-row.false
     c.decimal-col.ensures c.if-not-col.false
-    c.decimal-wraps.ensures _ c.if-not-wraps.true c.no_cell-then-not-wraps.ensures
+    c.decimal-wraps.ensures _ c.if-not-wraps.true c.no_cell-then-not-wraps.ensures in
+    record { cell = told.0; cell_stored = told.1 }
 
 pub read_value-v-requires : goal.read_value-v-requires
 read_value-v-requires c =
@@ -49,14 +52,12 @@ overflow_cast-result-3 c =
       decimal_small _ _ _ _ (omega arith) (omega arith) c.decimal-wraps.ensures,
     )
 
-pub shape_of-pool : goal.shape_of-pool
-shape_of-pool c = c.read_value-v.auto.1.1.0
-
 pub returns : goal.returns
 returns c =
-    cell_answer _ _ _ _ c.decimal-row.ensures c.if-not-row.false c.decimal-col.ensures c.if-not-col.false
+    let told = cell_answer _ _ _ _ c.decimal-row.ensures c.if-not-row.false c.decimal-col.ensures c.if-not-col.false
     c.decimal-wraps.ensures
     c.if-not-wraps.false _
-    c.read_value-v.new.1.1.0
+    c.read_value-v.new.pool
     c.read_value-v.ensures.value
-    c.read_value-v.ensures.value_stored
+    c.read_value-v.ensures.value_stored in
+    record { cell = told.0; cell_stored = told.1 }

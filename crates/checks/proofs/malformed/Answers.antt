@@ -9,12 +9,6 @@ use Rattle.checks.proofs.malformed.Goals as goal
 pub returns : goal.returns
 unfolding summary checks_of refuse_if lengths_differ too_many rules_of bad_cell_at
 returns c =
-    let region-order = c in
-    let cell-order = region-order in
-    let regions = cell-order in
-    let cells = regions in
-    let counts = cells in
-    let lengths = counts in
     first_also _ c.or-7.ensures
     (first_also _ c.or-6.ensures
     (first_also _ c.or-5.ensures
@@ -22,12 +16,12 @@ returns c =
     (first_also _ c.or-3.ensures
     (first_also _ c.or-2.ensures
     (first_also _ c.or.ensures
-    (refused_if _ lengths.refuse_if-lengths.ensures lengths.lengths_differ-differ.ensures ∙ sym (first_one _))
-    (refused_if _ counts.refuse_if-counts.ensures counts.too_many-over.ensures))
-    (refused_at_lem _ 3 _ cells.out_of_bounds-cells.ensures cells.first_bad_cell.ensures))
-    (refused_at_lem _ 3 _ regions.out-of-bounds2.ensures regions.first_bad_region.ensures))
-    (refused_at_lem _ 4 _ cell-order.not-rising.ensures cell-order.first_fall.ensures))
-    (refused_at_lem _ 4 _ region-order.not-rising2.ensures region-order.first_fall-2.ensures))
+    (refused_if _ c.refuse_if-lengths.ensures c.lengths_differ-differ.ensures ∙ sym (first_one _))
+    (refused_if _ c.refuse_if-counts.ensures c.too_many-over.ensures))
+    (refused_at_lem _ 3 _ c.out_of_bounds-cells.ensures c.first_bad_cell.ensures))
+    (refused_at_lem _ 3 _ c.out_of_bounds-regions.ensures c.first_bad_region.ensures))
+    (refused_at_lem _ 4 _ c.not_rising-cell_order.ensures c.first_fall.ensures))
+    (refused_at_lem _ 4 _ c.not_rising-region_order.ensures c.first_fall-2.ensures))
     (refused_at_lem _ 5 _ c.name_outside-references.ensures c.first_bad_rule.ensures))
     c.check_sheet_name-sheet_name.ensures
     ∙ malformed_first _

@@ -6,17 +6,18 @@ use lib.Dec.{lit<}
 use Rattle.model.specs.Ratio.{held_to_byte, channel}
 use Rattle.ratio.proofs.I64.{Term, num, lit, op, plus, minus, times, over, fits, read_is}
 use Rattle.ratio.proofs.channel.Goals as goal
+use Rattle.ratio.proofs.channel.Goals.{Else-ppm-le1000000}
 
 -- the parts of the calculation; the literals k, h and q are the code's
-module _ (c : tie.Else1) where
+module _ (c : Else-ppm-le1000000) where
   abbrev start : Term
-  start = num c.before.args.start 255 (omega arith)
+  start = num c.args.start 255 (omega arith)
 
   abbrev end : Term
-  end = num c.before.args.end 255 (omega arith)
+  end = num c.args.end 255 (omega arith)
 
   abbrev ppm : Term
-  ppm = num c.before.args.ppm 4_294_967_295 (omega arith)
+  ppm = num c.args.ppm 4_294_967_295 (omega arith)
 
   abbrev delta : Term
   delta = op minus end start
@@ -50,4 +51,4 @@ nonzero_div-scaled c = (lit< tt, fits over (raised c _ _) (lit _) tt)
 
 pub returns : goal.returns
 unfolding channel
-returns c = c.held_to_byte.ensures ∙ ap held_to_byte (read_is (cut c 1_000_000 500_000 1_000_000) tt)
+returns c = c.held_to_byte.ensures ∙ ap held_to_byte (read_is (cut (goal.at.returns c).Else-ppm-le1000000 1_000_000 500_000 1_000_000) tt)

@@ -12,6 +12,7 @@ use mir.Val.{Fits, to_z, of_z}
 use mir.ValLaws.{to_z-of_z}
 use Rattle.model.specs.Ratio.{held_to_byte}
 use Rattle.ratio.proofs.held_to_byte.Goals as goal
+use Rattle.ratio.proofs.held_to_byte.Goals.{Else-q-gt255, Start}
 
 below : (z : ℤ) → lt_z z (pos 0) ≡ true → 0 ≡ held_to_byte z
 unfolding held_to_byte
@@ -29,22 +30,22 @@ between (pos n) g h = let l : n ≤ 255 = ltb-false 255 n h in (tt, omega arith,
 between (negsuc n) g h = absurd (subst T g tt)
 
 -- q as it is read from its bits
-read_is : (c : tie.Start) → to_z w64 (of_z w64 c.args.q) ≡ c.args.q
+read_is : (c : Start) → to_z w64 (of_z w64 c.args.q) ≡ c.args.q
 read_is c = to_z-of_z w64 c.args.q c.ranges.q
 
 pub returns-then-q-lt0 : goal.returns-then-q-lt0
-returns-then-q-lt0 c = below c.args.q (rw (read_is c) at c.if-q-lt0.true)
+returns-then-q-lt0 c = below c.args.q (rw (read_is (goal.at.returns-then-q-lt0 c).Start) at c.if-q-lt0.true)
 
 pub returns-then-q-gt255 : goal.returns-then-q-gt255
-returns-then-q-gt255 c = above c.args.q (rw (read_is c) at c.if-q-gt255.true)
+returns-then-q-gt255 c = above c.args.q (rw (read_is (goal.at.returns-then-q-gt255 c).Start) at c.if-q-gt255.true)
 
-inside : (c : tie.Else2) → let z = c.before.before.args.q in T (non_neg z) × Fits w8 (nat_abs z) × (nat_abs z ≡ held_to_byte z)
+inside : (c : Else-q-gt255) → let z = c.args.q in T (non_neg z) × Fits w8 (nat_abs z) × (nat_abs z ≡ held_to_byte z)
 inside c =
-    let e = read_is c.before.before in
-    between c.before.before.args.q (rw e at c.before.if1.false) (rw e at c.if2.false)
+    let e = to_z-of_z w64 c.args.q c.ranges.q in
+    between c.args.q (rw e at c.if-q-lt0.false) (rw e at c.if-q-gt255.false)
 
 pub overflow_cast-result : goal.overflow_cast-result
-overflow_cast-result c = rw (read_is c) ((inside c).0, (inside c).1)
+overflow_cast-result c = rw (read_is (goal.at.overflow_cast-result c).Start) ((inside c).0, (inside c).1)
 
 pub returns : goal.returns
-returns c = ap nat_abs (read_is c) ∙ (inside c).2
+returns c = ap nat_abs (read_is (goal.at.returns c).Start) ∙ (inside c).2

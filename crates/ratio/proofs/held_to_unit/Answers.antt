@@ -1,5 +1,4 @@
 -- `ratio::held_to_unit` meets its contract, by the laws of proofs/Held.antt. Assumes nothing.
-use mathlib.Core.Logic.{⊎_elim}
 use mathlib.Core.Path.{◌≡◌, sym, subst}
 use mathlib.Core.Bool.{true, false}
 use lib.Dec.{T}
@@ -7,6 +6,7 @@ use lib.Ieee.{Float, lt, of_bits}
 use Rattle.model.specs.Ratio.{zero_f, one_f}
 use Rattle.ratio.proofs.Held.{Held, held_inside, held_above, held_below}
 use Rattle.ratio.proofs.held_to_unit.Goals as goal
+use Rattle.ratio.proofs.held_to_unit.Goals.{else-x, then-x}
 
 -- y, which is x or 0, is below 1
 inside : (x y : Float) → lt zero_f x ≡ true → y ≡ x → lt y one_f ≡ true → Held x y
@@ -27,7 +27,7 @@ pub returns-then-y : goal.returns-then-y
 unfolding of_bits
 returns-then-y c =
     let x = c.args.x in
-    let h : Held x c.if-x.y = ⊎_elim (λ w. inside x _ w.0.taken w.1 c.if-y.true) (λ w. below x _ w.0.left w.1) c.if-x.branch in record {
+    let h : Held x c.if-x.y = (elim c.if-x.branch [ then-x w ↦ inside x _ w.if-x.true w.y-is c.if-y.true | else-x w ↦ below x _ w.if-x.false w.y-is ]) in record {
       unit = h.unit;
       same = h.same;
     }
@@ -36,7 +36,7 @@ pub returns-else-y : goal.returns-else-y
 unfolding of_bits
 returns-else-y c =
     let x = c.args.x in
-    let h : Held x one_f = ⊎_elim (λ w. above x _ w.0.taken w.1 c.if-y.false) (λ w. never x _ w.1 c.if-y.false) c.if-x.branch in record {
+    let h : Held x one_f = (elim c.if-x.branch [ then-x w ↦ above x _ w.if-x.true w.y-is c.if-y.false | else-x w ↦ never x _ w.y-is c.if-y.false ]) in record {
       unit = h.unit;
       same = h.same;
     }

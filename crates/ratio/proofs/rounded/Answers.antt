@@ -3,8 +3,9 @@ use native.Mathlib.Omega.{arith}
 use lib.Ieee.{binary64, add, sub, le, of_bits}
 use Rattle.ratio.proofs.Rounding.{big_f, half_f, byte_most, Nearest, nearest_of}
 use Rattle.ratio.proofs.rounded.Goals as goal
+use Rattle.ratio.proofs.rounded.Goals.{Start}
 
-near : (c : tie.Start) → Nearest c.args.x (add binary64 c.args.x big_f)
+near : (c : Start) → Nearest c.args.x (add binary64 c.args.x big_f)
 near c = nearest_of c.args.x c.requires
 
 pub float_to_bits-result : goal.float_to_bits-result

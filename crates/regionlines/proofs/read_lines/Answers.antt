@@ -1,4 +1,3 @@
-use Prim.Native.Nat.{◌-◌}
 use mathlib.Core.Path.{refl}
 use native.Mathlib.Omega.{arith}
 use Rattle.regionlines.proofs.Sections.{rest_begun, rest_next, rest_stopped, rest_done}

@@ -6,28 +6,32 @@ use Rattle.fields.proofs.Bounds.{decimal_small}
 use Rattle.rulelines.proofs.read_rule.Goals as goal
 
 pub returns-then-not-a : goal.returns-then-not-a
-returns-then-not-a c = no_top _ _ _ _ c.decimal-a.ensures _ _ c.if-not-a.true c.no_rule.ensures
+returns-then-not-a c = let told = no_top _ _ _ _ c.decimal-a.ensures _ _ c.if-not-a.true c.no_rule.ensures in
+    record { rule = told.0; pooled = told.1 }
 
 pub returns-then-not-b : goal.returns-then-not-b
 returns-then-not-b c =
-    no_left _ _ _ _ c.decimal-a.ensures
+    let told = no_left _ _ _ _ c.decimal-a.ensures
     c.if-not-a.false c.decimal-b.ensures _ _ c.if-not-b.true
-    c.no_rule-then-not-b.ensures
+    c.no_rule-then-not-b.ensures in
+    record { rule = told.0; pooled = told.1 }
 
 pub returns-then-not-c : goal.returns-then-not-c
 returns-then-not-c c =
-    no_bottom _ _ _ _ c.decimal-a.ensures
+    let told = no_bottom _ _ _ _ c.decimal-a.ensures
     c.if-not-a.false
     c.decimal-b.ensures c.if-not-b.false
-    c.decimal-c.ensures _ _ c.if-not-c.true c.no_rule-then-not-c.ensures
+    c.decimal-c.ensures _ _ c.if-not-c.true c.no_rule-then-not-c.ensures in
+    record { rule = told.0; pooled = told.1 }
 
 pub returns-then-not-d : goal.returns-then-not-d
 returns-then-not-d c =
-    no_right _ _ _ _ c.decimal-a.ensures c.if-not-a.false
+    let told = no_right _ _ _ _ c.decimal-a.ensures c.if-not-a.false
     c.decimal-b.ensures
     c.if-not-b.false
     c.decimal-c.ensures c.if-not-c.false
-    c.decimal-d.ensures _ _ c.if-not-d.true c.no_rule-then-not-d.ensures
+    c.decimal-d.ensures _ _ c.if-not-d.true c.no_rule-then-not-d.ensures in
+    record { rule = told.0; pooled = told.1 }
 
 pub overflow_cast-range : goal.overflow_cast-range
 overflow_cast-range c =
@@ -68,12 +72,10 @@ read_behind-requires c =
     c.decimal-d.ensures
     c.if-not-d.false c.requires
 
-pub shape_of-pool : goal.shape_of-pool
-shape_of-pool c = c.read_behind.auto.1.1.1.0
-
 pub returns : goal.returns
 returns c =
-    rule_answer _ _ _ _ c.decimal-a.ensures
+    let told = rule_answer _ _ _ _ c.decimal-a.ensures
     c.if-not-a.false c.decimal-b.ensures c.if-not-b.false c.decimal-c.ensures c.if-not-c.false c.decimal-d.ensures
     c.if-not-d.false c.read_behind.result _
-    c.read_behind.ensures.rule c.read_behind.ensures.pooled
+    c.read_behind.ensures.rule c.read_behind.ensures.pooled in
+    record { rule = told.0; pooled = told.1 }

@@ -1,5 +1,3 @@
-use Prim.Native.Nat.{◌-◌}
-use mathlib.Core.Path.{◌∙◌}
 use native.Mathlib.Omega.{arith}
 use Rattle.rulelines.proofs.RuleSections.{rest_begun, rest_stopped, rest_next, rest_done}
 use Rattle.rulelines.proofs.read_rule_lines.Goals as goal
@@ -10,14 +8,12 @@ loop-i-init c = (rw c.blank_rule-blank.ensures (rest_begun _ _ _ _ _ _ c.require
 pub read_rule-r-requires : goal.read_rule-r-requires
 read_rule-r-requires c = c.loop-i.invariant.0.room
 
-pub shape_of-pool-then-not-r : goal.shape_of-pool-then-not-r
-shape_of-pool-then-not-r c = c.read_rule-r.auto.1.1.0 ∙ c.loop-i.invariant.0.deep
-
 pub returns-then-not-r : goal.returns-then-not-r
 returns-then-not-r c =
-    rest_stopped c.loop-i.invariant.0
+    let told = rest_stopped c.loop-i.invariant.0
     c.read_rule-r.result _ _ (omega arith) c.if-not-r.true
-    c.read_rule-r.ensures.rule c.no_rules.ensures
+    c.read_rule-r.ensures.rule c.no_rules.ensures in
+    record { value = told.0; pooled = told.1 }
 
 pub offset_bounds-records-i : goal.offset_bounds-records-i
 offset_bounds-records-i c = omega (arith, c.loop-i.invariant.1)
@@ -37,12 +33,10 @@ loop-i-preserved c = (
       c.read_rule-r.result _ (omega arith) c.if-not-r.false
       c.read_rule-r.ensures.rule
       c.read_rule-r.ensures.pooled
-      c.read_rule-r.auto.1.1.0,
+      c.read_rule-r.auto.pool,
   c.loop-i.invariant.1,
 )
 
-pub shape_of-pool : goal.shape_of-pool
-shape_of-pool c = c.loop-i.invariant.0.deep
-
 pub returns : goal.returns
-returns c = rest_done c.loop-i.invariant.0 (omega arith)
+returns c = let told = rest_done c.loop-i.invariant.0 (omega arith) in
+    record { value = told.0; pooled = told.1 }

@@ -1,9 +1,8 @@
-use Prim.Native.Nat.{◌-◌, ◌<◌}
+use Prim.Native.Nat.{◌<◌}
 use native.Mathlib.Omega.{arith}
 use borrow.Author.Rules.{rules}
-use borrow.Author.Tests.{ltb-true, ltb-false}
 use lib.ListN.{length}
-use Rattle.put.proofs.Laws.{left_begun, left_length, left_done}
+use Rattle.put.proofs.Laws.{left_begun, left_done}
 use Rattle.rulewriter.proofs.Lines.{rules_more, rules_none, length_mapped}
 use Rattle.rulewriter.proofs.Pieces.{lent_room}
 use Rattle.rulewriter.proofs.put_lines.Goals as goal
@@ -29,21 +28,14 @@ loop-i-preserved c =
     let rules = c.args.rules in
     let room = lent_room c.args.text.now c.well_formed.0.1 in
     let below : loop.i < length rules.records = omega arith in
-    let more = rules_more _ rules.records rules.number loop.i _ room below (ltb-true _ _ c.if-i-number.true) in
+    let more = rules_more _ rules.records rules.number loop.i _ room below c.if-i-number.true in
     (loop.invariant.0, more loop.invariant.1 c.put_rule-end.ensures)
-
-pub shape_of-text-else-i-number : goal.shape_of-text-else-i-number
-shape_of-text-else-i-number c = left_length c.loop-i.invariant.1
 
 pub returns-else-i-number : goal.returns-else-i-number
 returns-else-i-number c =
     let loop = c.loop-i in
     let rules = c.args.rules in
-    let all = ltb-false loop.i rules.number c.if-i-number.false in
     left_done loop.invariant.1 (rules_none _ rules.records rules.number loop.i (omega arith))
-
-pub shape_of-text-after-loop-i : goal.shape_of-text-after-loop-i
-shape_of-text-after-loop-i c = left_length c.loop-i.invariant.1
 
 pub returns-after-loop-i : goal.returns-after-loop-i
 returns-after-loop-i c =

@@ -1,6 +1,6 @@
 -- `rulewriter::put_range` meets its contract: four numbers. Assumes nothing.
 use mathlib.Core.Path.{refl}
-use Rattle.put.proofs.Laws.{laid_as, laid_length}
+use Rattle.put.proofs.Laws.{laid_as}
 use Rattle.rulewriter.proofs.Pieces.{laid_on}
 use Rattle.rulewriter.proofs.put_range.Goals as goal
 
@@ -12,6 +12,3 @@ returns c =
     laid_on c.put_number-left.ensures lent λ lent.
     laid_on c.put_number-bottom.ensures lent λ lent. c.put_number.ensures)
     refl
-
-pub shape_of-text : goal.shape_of-text
-shape_of-text c = laid_length (returns c)

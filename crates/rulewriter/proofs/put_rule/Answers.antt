@@ -1,6 +1,6 @@
 -- `rulewriter::put_rule` meets its contract: the range, the priority, the flags and the kind. Assumes nothing.
 use Rattle.grammar.specs.Parts.{bytes}
-use Rattle.put.proofs.Laws.{laid_as, laid_length}
+use Rattle.put.proofs.Laws.{laid_as}
 use Rattle.rulewriter.proofs.Pieces.{laid_on}
 use Rattle.rulewriter.proofs.Texts.{rule_text}
 use Rattle.rulewriter.proofs.put_rule.Goals as goal
@@ -15,6 +15,3 @@ returns c =
     laid_on c.put_either-stop.ensures lent λ lent.
     laid_on c.put_either-imported.ensures lent λ lent. c.put_kind.ensures)
     (rule_text _ _)
-
-pub shape_of-text : goal.shape_of-text
-shape_of-text c = laid_length (returns c)

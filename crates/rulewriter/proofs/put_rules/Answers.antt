@@ -1,7 +1,7 @@
 -- `rulewriter::put_rules` meets its contract: the line of names, then the lines. Assumes nothing.
 use mathlib.Core.Path.{refl}
 use Rattle.grammar.specs.Parts.{bytes}
-use Rattle.put.proofs.Laws.{laid_as, laid_length, laid_ready}
+use Rattle.put.proofs.Laws.{laid_as, laid_ready}
 use Rattle.rulewriter.proofs.Pieces.{lent_room, laid_on}
 use Rattle.rulewriter.proofs.put_rules.Goals as goal
 
@@ -16,6 +16,3 @@ returns c =
     laid_as (
     laid_on c.put_bytes-names.ensures lent λ lent. c.put_lines.ensures)
     refl
-
-pub shape_of-text : goal.shape_of-text
-shape_of-text c = laid_length (returns c)

@@ -2,7 +2,6 @@
 -- A rule that is not bad leaves that to those after it. The measure is what is left of the 64 records. Assumes nothing.
 use Prim.Native.Nat.{◌-◌}
 use mathlib.Core.Path.{◌≡◌}
-use borrow.Author.Rules.{rules}
 use lib.ListN.{length, take, drop}
 use Rattle.model.specs.Job.{first_bad_rule}
 use Rattle.checks.proofs.names.first_bad_rule.Given as goal

@@ -1,8 +1,6 @@
-use Prim.Native.Nat.{◌-◌}
 use mathlib.Core.Path.{sym, ◌∙◌}
 use native.Mathlib.Nat.{sub-zero}
 use native.Mathlib.Omega.{arith}
-use Rattle.model.specs.Job.{bad_cell_at}
 use Rattle.checks.proofs.Searching.{number_found, number_passed, numbers_ended}
 use Rattle.checks.proofs.sheet.first_bad_cell.Goals as goal
 

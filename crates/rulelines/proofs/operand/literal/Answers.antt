@@ -5,7 +5,7 @@ use Rattle.rulelines.proofs.operand.literal.Goals as goal
 pub returns-then-not-f : goal.returns-then-not-f
 returns-then-not-f c =
     literal_none c.args.f c.args.at
-    c.args.used c.no_Operand.result c.if-not-f.true c.no_Operand.ensures
+    c.args.used c.no_operand.result c.if-not-f.true c.no_operand.ensures
 
 pub returns-then-not-is_finite : goal.returns-then-not-is_finite
 returns-then-not-is_finite c =

@@ -7,12 +7,14 @@ use Rattle.fields.proofs.Room.{room_used}
 use Rattle.rulelines.proofs.operand.read_name.Goals as goal
 
 pub returns-then-d : goal.returns-then-d
-returns-then-d c = name_this _ _ _ _ c.byte-d.ensures c.if-d.true c.byte-e.ensures
+returns-then-d c = let told = name_this _ _ _ _ c.byte-d.ensures c.if-d.true c.byte-e.ensures in
+    record { name = told.0; pooled = told.1 }
 
 pub returns-then-not-t : goal.returns-then-not-t
 returns-then-not-t c =
-    name_none _ _ _ _ c.byte-d.ensures c.if-d.false
-    c.byte-t.ensures _ _ c.if-not-t.true (refl, refl)
+    let told = name_none _ _ _ _ c.byte-d.ensures c.if-d.false
+    c.byte-t.ensures _ _ c.if-not-t.true (refl, refl) in
+    record { name = told.0; pooled = told.1 }
 
 pub overflow_cast-span : goal.overflow_cast-span
 overflow_cast-span c = omega (arith, room_used c.requires)
@@ -37,7 +39,8 @@ overflow_add-result c =
 
 pub returns : goal.returns
 returns c =
-    name_named _ _ _ _ c.byte-d.ensures
+    let told = name_named _ _ _ _ c.byte-d.ensures
     c.if-d.false
     c.byte-t.ensures c.if-not-t.false
-    c.text-f.ensures.value c.text-f.ensures.pool_after
+    c.text-f.ensures.value c.text-f.ensures.pool_after in
+    record { name = told.0; pooled = told.1 }

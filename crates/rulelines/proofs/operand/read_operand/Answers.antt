@@ -5,8 +5,9 @@ use Rattle.rulelines.proofs.operand.read_operand.Goals as goal
 
 pub returns-then-n : goal.returns-then-n
 returns-then-n c =
-    operand_literal _ _ _ _ c.byte-n.ensures c.bits-f.result _
-    c.if-n.true c.bits-f.ensures c.literal.ensures
+    let told = operand_literal _ _ _ _ c.byte-n.ensures c.bits-f.result _
+    c.if-n.true c.bits-f.ensures c.literal.ensures in
+    record { operand = told.0; pooled = told.1 }
 
 pub read_reference-requires : goal.read_reference-requires
 read_reference-requires c =
@@ -14,18 +15,17 @@ read_reference-requires c =
     c.if-n.false c.byte-r.ensures c.if-r.true
     c.requires
 
-pub shape_of-pool-then-r : goal.shape_of-pool-then-r
-shape_of-pool-then-r c = c.read_reference.auto.1.1.0
-
 pub returns-then-r : goal.returns-then-r
 returns-then-r c =
-    operand_reference _ _ _ _ c.byte-n.ensures
+    let told = operand_reference _ _ _ _ c.byte-n.ensures
     c.if-n.false c.byte-r.ensures _ _
     c.if-r.true c.read_reference.ensures.reference
-    c.read_reference.ensures.pooled
+    c.read_reference.ensures.pooled in
+    record { operand = told.0; pooled = told.1 }
 
 pub returns : goal.returns
 returns c =
-    operand_unread _ _ _ _ c.byte-n.ensures
+    let told = operand_unread _ _ _ _ c.byte-n.ensures
     c.if-n.false c.byte-r.ensures c.if-r.false
-    c.word-u.ensures
+    c.word-u.ensures in
+    record { operand = told.0; pooled = told.1 }

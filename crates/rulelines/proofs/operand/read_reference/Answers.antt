@@ -6,20 +6,23 @@ use Rattle.fields.proofs.Bounds.{decimal_small}
 use Rattle.rulelines.proofs.operand.read_reference.Goals as goal
 
 pub returns-then-not-row : goal.returns-then-not-row
-returns-then-not-row c = no_row _ _ _ _ c.decimal-row.ensures _ _ c.if-not-row.true c.no_Operand.ensures
+returns-then-not-row c = let told = no_row _ _ _ _ c.decimal-row.ensures _ _ c.if-not-row.true c.no_operand.ensures in
+    record { reference = told.0; pooled = told.1 }
 
 pub returns-then-not-col : goal.returns-then-not-col
 returns-then-not-col c =
-    no_col _ _ _ _ c.decimal-row.ensures
+    let told = no_col _ _ _ _ c.decimal-row.ensures
     c.if-not-row.false c.decimal-col.ensures _ _ c.if-not-col.true
-    c.no_operand-then-not-col.ensures
+    c.no_operand-then-not-col.ensures in
+    record { reference = told.0; pooled = told.1 }
 
 pub returns-then-not-abs : goal.returns-then-not-abs
 returns-then-not-abs c =
-    no_absolute _ _ _ _ c.decimal-row.ensures
+    let told = no_absolute _ _ _ _ c.decimal-row.ensures
     c.if-not-row.false
     c.decimal-col.ensures c.if-not-col.false
-    c.decimal-abs.ensures _ _ c.if-not-abs.true c.no_operand-then-not-abs.ensures
+    c.decimal-abs.ensures _ _ c.if-not-abs.true c.no_operand-then-not-abs.ensures in
+    record { reference = told.0; pooled = told.1 }
 
 pub read_name-n-requires : goal.read_name-n-requires
 read_name-n-requires c =
@@ -42,12 +45,10 @@ overflow_cast-f-2 c =
       decimal_small _ _ _ _ (omega arith) (omega arith) c.decimal-col.ensures,
     )
 
-pub shape_of-pool : goal.shape_of-pool
-shape_of-pool c = c.read_name-n.auto.1.1.0
-
 pub returns : goal.returns
 returns c =
-    reference_answer _ _ _ _ c.decimal-row.ensures c.if-not-row.false c.decimal-col.ensures c.if-not-col.false c.decimal-abs.ensures
+    let told = reference_answer _ _ _ _ c.decimal-row.ensures c.if-not-row.false c.decimal-col.ensures c.if-not-col.false c.decimal-abs.ensures
     c.if-not-abs.false _ _
     c.read_name-n.ensures.name
-    c.read_name-n.ensures.pooled
+    c.read_name-n.ensures.pooled in
+    record { reference = told.0; pooled = told.1 }

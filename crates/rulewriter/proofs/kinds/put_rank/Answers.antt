@@ -2,7 +2,7 @@
 use mathlib.Core.Path.{refl}
 use Rattle.grammar.specs.Parts.{bytes}
 use Rattle.jobtext.specs.Rules.{rank, kind}
-use Rattle.put.proofs.Laws.{laid_as, laid_length}
+use Rattle.put.proofs.Laws.{laid_as}
 use Rattle.rulewriter.proofs.Pieces.{laid_on}
 use Rattle.rulewriter.proofs.kinds.put_rank.Goals as goal
 
@@ -16,6 +16,3 @@ returns c =
     laid_on c.put_either-side.ensures lent λ lent.
     laid_on c.put_either-unit.ensures lent λ lent. c.put_colour.ensures)
     refl
-
-pub shape_of-text : goal.shape_of-text
-shape_of-text c = laid_length (returns c)

@@ -2,7 +2,7 @@
 use mathlib.Core.Path.{refl}
 use Rattle.grammar.specs.Parts.{bytes}
 use Rattle.jobtext.specs.Rules.{scale3, kind}
-use Rattle.put.proofs.Laws.{laid_as, laid_length}
+use Rattle.put.proofs.Laws.{laid_as}
 use Rattle.rulewriter.proofs.Pieces.{laid_on}
 use Rattle.rulewriter.proofs.kinds.put_scale3.Goals as goal
 
@@ -15,6 +15,3 @@ returns c =
     laid_on c.put_colour-first.ensures lent λ lent.
     laid_on c.put_colour-middle.ensures lent λ lent. c.put_colour.ensures)
     refl
-
-pub shape_of-text : goal.shape_of-text
-shape_of-text c = laid_length (returns c)

@@ -1,7 +1,7 @@
 -- `rulewriter::operand::put_literal` meets its contract: the bits of a finite number, else `u`. Assumes nothing.
 use mathlib.Core.Path.{sym, ◌∙◌}
 use Rattle.grammar.specs.Parts.{bytes}
-use Rattle.put.proofs.Laws.{laid_as, laid_length}
+use Rattle.put.proofs.Laws.{laid_as}
 use Rattle.rulewriter.proofs.Pieces.{laid_on}
 use Rattle.rulewriter.proofs.Texts.{literal_unread, literal_finite}
 use Rattle.rulewriter.proofs.operand.put_literal.Goals as goal
@@ -20,13 +20,7 @@ returns-then-is_finite c =
     laid_on c.put_hex-digits.ensures lent λ lent. c.put_byte.ensures)
     (literal_finite _ finite c.bits_of.ensures)
 
-pub shape_of-text-then-is_finite : goal.shape_of-text-then-is_finite
-shape_of-text-then-is_finite c = laid_length (returns c)
-
 pub returns : goal.returns
 unfolding bytes
 returns c =
     laid_as c.put_bytes.ensures (literal_unread _ (sym c.is_finite.ensures ∙ c.if-is_finite.false))
-
-pub shape_of-text : goal.shape_of-text
-shape_of-text c = laid_length (returns-2 c)

@@ -2,7 +2,7 @@
 use Rattle.grammar.specs.Parts.{bytes}
 use Rattle.jobtext.specs.Fields.{operand}
 use Rattle.jobtext.specs.Said.{literal_said, operand_said}
-use Rattle.put.proofs.Laws.{laid_as, laid_length}
+use Rattle.put.proofs.Laws.{laid_as}
 use Rattle.rulewriter.proofs.Pieces.{laid_on}
 use Rattle.rulewriter.proofs.Texts.{operand_as}
 use Rattle.rulewriter.proofs.operand.put_operand.Goals as goal
@@ -12,9 +12,6 @@ unfolding literal_said operand_said
 returns-in-Literal c =
     laid_as c.put_literal.ensures (operand_as _ c.in-Literal.is)
 
-pub shape_of-text-in-Literal : goal.shape_of-text-in-Literal
-shape_of-text-in-Literal c = laid_length (returns c)
-
 pub returns-in-Reference : goal.returns-in-Reference
 unfolding bytes operand operand_said
 returns-in-Reference c =
@@ -23,13 +20,7 @@ returns-in-Reference c =
     laid_on c.put_byte-r.ensures lent λ lent. c.put_reference.ensures)
     (operand_as _ c.in-Reference.is)
 
-pub shape_of-text-in-Reference : goal.shape_of-text-in-Reference
-shape_of-text-in-Reference c = laid_length (returns-2 c)
-
 pub returns-in-Unread : goal.returns-in-Unread
 unfolding bytes operand operand_said
 returns-in-Unread c =
     laid_as c.put_bytes.ensures (operand_as _ c.in-Unread.is)
-
-pub shape_of-text-in-Unread : goal.shape_of-text-in-Unread
-shape_of-text-in-Unread c = laid_length (returns-3 c)

@@ -1,5 +1,5 @@
 -- `rulewriter::parts::put_colour` meets its contract: three pairs of digits, then the end. Assumes nothing.
-use Rattle.put.proofs.Laws.{laid_as, laid_length}
+use Rattle.put.proofs.Laws.{laid_as}
 use Rattle.rulewriter.proofs.Pieces.{laid_on}
 use Rattle.rulewriter.proofs.Texts.{colour_text}
 use Rattle.rulewriter.proofs.parts.put_colour.Goals as goal
@@ -12,6 +12,3 @@ returns c =
     laid_on c.put_hex-green.ensures lent λ lent.
     laid_on c.put_hex-blue.ensures lent λ lent. c.put_bytes.ensures)
     (colour_text _ _)
-
-pub shape_of-text : goal.shape_of-text
-shape_of-text c = laid_length (returns c)

@@ -2,7 +2,7 @@
 use mathlib.Core.Path.{ap}
 use Rattle.grammar.specs.Parts.{bytes}
 use Rattle.jobtext.specs.Fields.{priority}
-use Rattle.put.proofs.Laws.{laid_as, laid_length}
+use Rattle.put.proofs.Laws.{laid_as}
 use Rattle.rulewriter.proofs.parts.put_priority.Goals as goal
 
 pub returns-in-Missing : goal.returns-in-Missing
@@ -10,13 +10,7 @@ unfolding bytes priority
 returns-in-Missing c =
     laid_as c.put_bytes.ensures (ap priority.text c.in-Missing.is)
 
-pub shape_of-text-in-Missing : goal.shape_of-text-in-Missing
-shape_of-text-in-Missing c = laid_length (returns c)
-
 pub returns-in-Written : goal.returns-in-Written
 unfolding priority
 returns-in-Written c =
     laid_as c.put_number.ensures (ap priority.text c.in-Written.is)
-
-pub shape_of-text-in-Written : goal.shape_of-text-in-Written
-shape_of-text-in-Written c = laid_length (returns-2 c)

@@ -1,0 +1,30 @@
+use Prim.Native.Nat.{◌-◌}
+use native.Mathlib.Omega.{arith}
+use Rattle.hits.proofs.Bytes.{counted_byte}
+use Rattle.hits.proofs.Stored.{stored_none, stored_more}
+use Rattle.hits.proofs.said.say_counted.Goals as goal
+
+pub loop-i-init : goal.loop-i-init
+loop-i-init c = stored_none _ _ _
+
+pub offset_bounds-founds-i : goal.offset_bounds-founds-i
+offset_bounds-founds-i c = omega arith
+
+pub bounds-founds-i : goal.bounds-founds-i
+bounds-founds-i c = omega arith
+
+pub bounds-said-i : goal.bounds-said-i
+bounds-said-i c = omega arith
+
+pub overflow_add-i : goal.overflow_add-i
+overflow_add-i c = omega arith
+
+pub loop-i-smaller : goal.loop-i-smaller
+loop-i-smaller c = omega arith
+
+pub loop-i-preserved : goal.loop-i-preserved
+loop-i-preserved c =
+    stored_more _ _ _ _ _ _ c.loop-i-test.true c.requires (counted_byte _ _) c.loop-i.invariant
+
+pub returns : goal.returns
+returns c i h = c.loop-i.invariant.each i (omega arith)

@@ -1,0 +1,27 @@
+-- `cell_is` meets its contract: the tests that led to each return decide the definition. Assumes nothing.
+use mathlib.Core.Path.{sym, ◌∙◌}
+use mathlib.Core.Logic.{⊎_elim}
+use Rattle.plans.specs.Plans.{plan_of_operands}
+use Rattle.plans.proofs.cell_is.Goals as goal
+
+pub returns-then-unread : goal.returns-then-unread
+unfolding plan_of_operands
+returns-then-unread c = simp (sym c.unread.ensures ∙ c.if-unread.true)
+
+pub returns-then-unread-2 : goal.returns-then-unread-2
+unfolding plan_of_operands
+returns-then-unread-2 c =
+    simp (
+      sym c.unread.ensures ∙ c.if-unread.false,
+      sym c.uses_second.ensures ∙ c.if-uses_second.true,
+      sym c.unread-then-uses_second.ensures ∙ c.if-unread-2.true,
+    )
+
+pub returns : goal.returns
+unfolding plan_of_operands
+returns c =
+    let read = sym c.unread.ensures ∙ c.if-unread.false in
+    ⊎_elim
+    (λ w. simp (read, sym c.uses_second.ensures ∙ w.0.taken, sym w.1.ensures ∙ w.2.left))
+    (λ w. simp (read, sym c.uses_second.ensures ∙ w.left))
+    c.else-uses_second.branch

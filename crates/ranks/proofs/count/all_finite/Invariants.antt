@@ -1,0 +1,12 @@
+-- `ranks::count::all_finite` meets its contract. The loop's invariant: the count so far and that of the values from i on make the
+-- count of all between -∞ and ∞, which is the length exactly if all are finite. The measure is what is left of the length. Assumes nothing.
+use Rattle.std.proofs.Common.{◌-◌, ◌&&◌, length}
+use lib.Ieee.{lt}
+use Rattle.ranks.proofs.Counting.{Counted}
+use Rattle.ranks.proofs.count.all_finite.Given as goal
+
+abbrev pub invariant-loop-i : goal.invariant-loop-i
+invariant-loop-i l = Counted (λ x. lt l.low x && lt x l.high) l.values l.i l.count
+
+abbrev pub decreases-loop-i : goal.decreases-loop-i
+decreases-loop-i l = length l.values - l.i
