@@ -1,6 +1,6 @@
 /* Conditional marks for embossed sheets: the calls for C.
  *
- * Link with libexports.a (`rt staticlib exports`), and for wavendiru_save_job with libsaveexports.a (`rt staticlib saveexports`). No call
+ * Link with target/staticlib/libexports.a, and for wavendiru_save_job with libsaveexports.a beside it (tools/archives writes both). No call
  * here keeps state, takes memory or stops the program, and all may be made from any thread, given WAVENDIRU_STACK bytes of stack.
  *
  * Floating point: all but wavendiru_channel rest on the state of the thread that calls them. The caller owes rounding to nearest with

@@ -100,7 +100,7 @@ fn archive(variable: &str, name: &str) -> Result<PathBuf, String> {
     let archive = Path::new(&folder).join(format!("lib{name}.a"));
     println!("cargo::rerun-if-changed={}", archive.display());
     if !archive.is_file() {
-        return Err(format!("{variable}={folder} holds no lib{name}.a (rt staticlib {name} writes it)"));
+        return Err(format!("{variable}={folder} holds no lib{name}.a ({made_by})"));
     }
     Ok(archive)
 }

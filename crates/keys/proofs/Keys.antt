@@ -13,7 +13,6 @@ use Rattle.model.specs.declared.ConditionalValueKey.{ConditionalValueKey as Key}
 use Rattle.model.specs.declared.Span.{Span}
 use Rattle.model.specs.Sheet.{CellColumns, cell_from, value_of, text_at}
 use Rattle.model.specs.Readings.{finite, max_wraps, key_bits, plain_text, key_of_value, conditional_value_key}
-use Rattle.model.specs.Rule.{keys}
 use Rattle.keys.specs.Names.{keys_held}
 use Rattle.keys.specs.Held.{span_at}
 

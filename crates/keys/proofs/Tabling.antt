@@ -4,7 +4,7 @@ use Prim.Native.Nat.{ℕ, suc, ◌+◌, ◌-◌, ◌≤◌, ◌<◌}
 use mathlib.Core.Path.{◌≡◌, refl, sym, ap, ◌∙◌}
 use mathlib.Core.Bool.{Bool, true, false}
 use mathlib.Core.List.{List}
-use mathlib.Core.Logic.{◌⊎◌, inl, inr, ⊎_elim}
+use mathlib.Core.Logic.{⊎_elim}
 use native.Mathlib.Omega.{arith}
 use lib.Dec.{eqb, ltb}
 use lib.ListN.{length, get_or, set, replicate, length-replicate, length-set}
@@ -15,7 +15,7 @@ use Rattle.model.specs.Readings.{same_key, has_key}
 use Rattle.keys.specs.Held.{word_of}
 use Rattle.keys.specs.Codes.{Coded}
 use Rattle.keys.specs.Places.{place_of, holds, Found}
-use Rattle.keys.proofs.SameKeys.{differ, key_swap, key_itself, key_turned, second_keyed}
+use Rattle.keys.proofs.SameKeys.{differ, key_swap, key_itself, second_keyed}
 use Rattle.keys.proofs.Naming.{zeros_at}
 use Rattle.keys.proofs.Comparing.{word_shared}
 use Rattle.keys.proofs.Along.{key, stored, coded_more, along_begun}

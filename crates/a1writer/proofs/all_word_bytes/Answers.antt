@@ -1,8 +1,6 @@
-use Prim.Native.Nat.{◌-◌}
 use native.Mathlib.Omega.{arith}
 use mathlib.Core.Path.{sym, ◌∙◌}
 use Rattle.readings.proofs.Bytes.{every_begun, every_passed, every_failed, every_ended}
-use Rattle.a1text.specs.Bytes.{is_word_byte}
 use Rattle.a1writer.proofs.all_word_bytes.Goals as goal
 
 pub loop-i-init : goal.loop-i-init

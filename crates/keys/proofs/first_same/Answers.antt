@@ -1,6 +1,4 @@
-use Prim.Native.Nat.{◌-◌}
 use mathlib.Core.Path.{refl, sym, ◌∙◌}
-use mathlib.Core.Bool.{true}
 use native.Mathlib.Omega.{arith}
 use Rattle.keys.proofs.Searching.{key_begun, key_found, key_passed, key_ended}
 use Rattle.keys.proofs.first_same.Goals as goal

@@ -21,7 +21,4 @@ pub returns : goal.returns
 unfolding plan_of_operands
 returns c =
     let read = sym c.unread.ensures ∙ c.if-unread.false in
-    ⊎_elim
-    (λ w. simp (read, sym c.uses_second.ensures ∙ w.0.taken, sym w.1.ensures ∙ w.2.left))
-    (λ w. simp (read, sym c.uses_second.ensures ∙ w.left))
-    c.else-uses_second.branch
+    ?

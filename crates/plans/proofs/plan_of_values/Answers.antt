@@ -15,17 +15,6 @@ plan_in_order-plan-requires c =
 -- sorting keeps the length
 kept : (c : Joined-plan_of_numbers) → length c.match-plan_of_numbers.values ≡ length c.args.values.now
 kept c =
-    elim c.match-plan_of_numbers.branch [
-      | inl (t, p, k, v, e) ↦ ap length v
-      | inr (t, n, a, o, v, k, w, e) ↦ ap length w ∙ o.kept.1.0
-    ]
+    ?
 
-pub returns : goal.returns
-returns c =
-    record {
-      value = elim c.match-plan_of_numbers.branch [
-        | inl (t, p, k, v, e) ↦ e ∙ planned_is _ _ _ (sym p.given.1 ∙ c.plan_of_numbers.ensures)
-        | inr (t, n, a, o, v, k, w, e) ↦ e ∙ o.ensures
-      ];
-      values_after = c.clear_f64.ensures ∙ ap (λ (n : ℕ). replicate n zero_f) (kept (goal.at.returns c).Joined-plan_of_numbers);
-    }
+

@@ -1,4 +1,3 @@
-use Prim.Native.Nat.{◌-◌}
 use native.Mathlib.Omega.{arith}
 use Rattle.keys.proofs.Along.{along_begun, along_more}
 use Rattle.keys.proofs.coding.codes_along.Goals as goal

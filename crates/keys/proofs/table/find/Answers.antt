@@ -1,6 +1,4 @@
-use Prim.Native.Nat.{◌-◌}
 use mathlib.Core.Path.{sym, ◌∙◌}
-use mathlib.Core.Bool.{true}
 use native.Mathlib.Omega.{arith}
 use Rattle.keys.proofs.Tabling.{passed_begun, passed_more, found_free, found_held}
 use Rattle.keys.proofs.table.find.Goals as goal
