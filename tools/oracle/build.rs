@@ -100,7 +100,8 @@ fn archive(variable: &str, name: &str) -> Result<PathBuf, String> {
     let archive = Path::new(&folder).join(format!("lib{name}.a"));
     println!("cargo::rerun-if-changed={}", archive.display());
     if !archive.is_file() {
-        return Err(format!("{variable}={folder} holds no lib{name}.a ({made_by})"));
+        let script = if name == "columnsbench" { "tools/oracle/columns_bench/build" } else { "tools/archives" };
+        return Err(format!("{variable}={folder} holds no lib{name}.a ({script} writes it)"));
     }
     Ok(archive)
 }

@@ -17,7 +17,7 @@ mod shapes;
 
 ghost use Rattle.std.specs.Prelude.{◌≡◌};
 ghost use Rattle.model.specs.Answer.{summary};
-ghost use Rattle.model.specs.Job.{result};
+ghost use Rattle.model.specs.Job.{result as job_result};
 ghost use Rattle.model.specs.Columns.{columns_of};
 ghost use Rattle.laws.specs.Demands.{lengths_of};
 ghost use Rattle.checks.specs.Checked.{cell_columns, job_of};
@@ -72,18 +72,18 @@ pub fn resolve_conditional_paints(
     barppms: &mut [u32],
     scratch: &mut [f64],
 ) -> Answer
-    ensures* answer { λ r. ⌜ summary r ≡ (result (job_of (cell_columns rows.now cols.now kinds.now
+    ensures answer { summary result ≡ (job_result (job_of (cell_columns rows.now cols.now kinds.now
         wraps.now nums.now ats.now lens.now) region_rows.now region_cols.now
         pool.now name rules start)
         limit (lengths_of (lent regions.old ruleids.old markkinds.old colours.old
-        ppms.old shapes.old barrules.old barppms.old scratch.old))).summary ⌝ }
-    ensures* columns { λ _. ⌜ lent regions.new ruleids.new markkinds.new colours.new
+        ppms.old shapes.old barrules.old barppms.old scratch.old))).summary }
+    ensures columns { lent regions.new ruleids.new markkinds.new colours.new
         ppms.new shapes.new barrules.new barppms.new scratch.new
         ≡ columns_of (job_of (cell_columns rows.now cols.now kinds.now
         wraps.now nums.now ats.now lens.now) region_rows.now region_cols.now
         pool.now name rules start)
         limit (lengths_of (lent regions.old ruleids.old markkinds.old colours.old
-        ppms.old shapes.old barrules.old barppms.old scratch.old)) ⌝ }
+        ppms.old shapes.old barrules.old barppms.old scratch.old)) }
 {
     clear_columns(
         regions, ruleids, markkinds, colours, ppms, shapes, barrules, barppms,

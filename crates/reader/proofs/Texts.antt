@@ -73,14 +73,14 @@ module _ (s : List ℕ) (t : Start) (b : RuleSection) (fits : Bool) where
     at_end : eqb b.next (length s) ≡ true
     at_end = eq-eqb b.next (length s) y
 
-    pub columns_short : {r : ReadJob} → not fits ≡ true → r ≡ refused_as 6 0 t.start → r ≡ finished s t b fits
-    columns_short n e = rw (ok, at_end, not-true fits n, e)
+    pub columns_short : {r : ReadJob} → fits ≡ false → r ≡ refused_as 6 0 t.start → r ≡ finished s t b fits
+    columns_short n e = rw (ok, at_end, n, e)
 
-    pub pool_short : {r : ReadJob} → not fits ≡ false → not b.fits ≡ true → r ≡ refused_as 6 0 t.start → r ≡ finished s t b fits
-    pool_short o n e = rw (ok, at_end, not-false fits o, not-true b.fits n, e)
+    pub pool_short : {r : ReadJob} → fits ≡ true → not b.fits ≡ true → r ≡ refused_as 6 0 t.start → r ≡ finished s t b fits
+    pool_short o n e = rw (ok, at_end, o, not-true b.fits n, e)
 
-    pub all_read : not fits ≡ false → not b.fits ≡ false → finished_if true true s t b ≡ finished s t b fits
-    all_read o n = rw (ok, at_end, not-false fits o, not-false b.fits n)
+    pub all_read : fits ≡ true → not b.fits ≡ false → finished_if true true s t b ≡ finished s t b fits
+    all_read o n = rw (ok, at_end, o, not-false b.fits n)
 
 -- ---- the job as it is laid
 

@@ -1,20 +1,17 @@
 -- `plan_of_values` meets its contract: the plan is found first, and the values keep their length until they are cleared. Assumes nothing.
-use Prim.Native.Nat.{ℕ}
-use mathlib.Core.Logic.{inl, inr}
-use mathlib.Core.Path.{◌≡◌, sym, ap, ◌∙◌}
-use lib.ListN.{length, replicate}
-use Rattle.model.specs.Ratio.{zero_f}
+use mathlib.Core.Path.{sym, ◌∙◌}
 use Rattle.plans.proofs.AnyOrder.{planned_is, unordered_is}
 use Rattle.plans.proofs.plan_of_values.Goals as goal
-use Rattle.plans.proofs.plan_of_values.Goals.{Joined-plan_of_numbers}
+use Rattle.plans.proofs.plan_of_values.Goals.{in-Of, in-Unordered}
 
 pub plan_in_order-plan-requires : goal.plan_in_order-plan-requires
 plan_in_order-plan-requires c =
-    unordered_is _ _ (sym c.in-Unordered.is ∙ c.plan_of_numbers.ensures)
+    let told = unordered_is _ _ (sym c.in-Unordered.is ∙ c.plan_of_numbers.ensures) in
+    record { kind_value = told.0; values_value = told.1 }
 
--- sorting keeps the length
-kept : (c : Joined-plan_of_numbers) → length c.match-plan_of_numbers.values ≡ length c.args.values.now
-kept c =
-    ?
-
-
+pub returns-clause-value : goal.returns-clause-value
+returns-clause-value c =
+    elim c.match-plan_of_numbers.branch [
+      | in-Of w ↦ w.plan-is ∙ planned_is _ _ _ (sym w.in-Of.is ∙ c.plan_of_numbers.ensures)
+      | in-Unordered w ↦ w.plan-is ∙ w.plan_in_order-plan.ensures
+    ]

@@ -1,0 +1,18 @@
+-- `sheetwriter::put_cells` meets its contract: the line of names, then the lines of the cells. Assumes nothing.
+use Prim.Native.Nat.{◌<◌}
+use native.Mathlib.Omega.{arith}
+use lib.ListN.{length}
+use Rattle.grammar.specs.Parts.{bytes}
+use Rattle.put.specs.Put.{last}
+use Rattle.put.proofs.Laws.{laid_then, laid_ready}
+use Rattle.sheetwriter.proofs.put_cells.Goals as goal
+
+pub put_cell_lines-requires : goal.put_cell_lines-requires
+put_cell_lines-requires c =
+    laid_ready c.put_bytes-names.ensures (omega (arith, c.well_formed.0))
+
+pub returns : goal.returns
+unfolding bytes
+returns c =
+    let room : length c.args.text.now < last = omega (arith, c.well_formed.0) in
+    laid_then room c.put_bytes-names.ensures c.put_cell_lines.ensures
