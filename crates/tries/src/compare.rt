@@ -1,32 +1,31 @@
 // What the call gave, held against a list.
 use crate::reader::{State, number, number_or_zero, one_more};
-use libc::STDOUT_FILENO;
 use model::Answer;
 
 // How many mismatches of a list are written out.
 const WRITTEN: u64 = 100;
 
-// One line; an element of a column has its index behind the column's name.
-fn write_mismatch(st: State, name: &[u8], element: bool, index: u64, given: u64) {
-    io::write_all(STDOUT_FILENO, b"job ");
-    io::print_decimal(STDOUT_FILENO, st.job);
-    io::write_all(STDOUT_FILENO, b" run ");
-    io::print_decimal(STDOUT_FILENO, st.run);
-    io::write_all(STDOUT_FILENO, b" ");
-    io::write_all(STDOUT_FILENO, name);
-    if element {
-        io::write_all(STDOUT_FILENO, b" ");
-        io::print_decimal(STDOUT_FILENO, index);
-    }
-    io::write_all(STDOUT_FILENO, b": expected ");
-    io::print_decimal(STDOUT_FILENO, st.value);
-    io::write_all(STDOUT_FILENO, b", given ");
-    io::print_decimal(STDOUT_FILENO, given);
-    io::write_all(STDOUT_FILENO, b"\n");
+// One line; an element of a column has its index behind the column's name. Where it cannot be written, the list's last line cannot either.
+fn write_mismatch(rt: &impl Print, st: State, name: &str, element: bool, index: u64, given: u64) {
+    let job = st.job;
+    let run = st.run;
+    let expected = st.value;
+    let _ = if element {
+        println!(rt; "job {job} run {run} {name} {index}: expected {expected}, given {given}")
+    } else {
+        println!(rt; "job {job} run {run} {name}: expected {expected}, given {given}")
+    };
 }
 
 // A value held against the number that was read last.
-fn compared(mut st: State, name: &[u8], element: bool, index: u64, given: u64) -> State {
+fn compared(
+    rt: &impl Print,
+    mut st: State,
+    name: &str,
+    element: bool,
+    index: u64,
+    given: u64,
+) -> State {
     if st.fault != 0 {
         return st;
     }
@@ -36,7 +35,7 @@ fn compared(mut st: State, name: &[u8], element: bool, index: u64, given: u64) -
     }
     st.mismatches = one_more(st.mismatches);
     if st.mismatches <= WRITTEN {
-        write_mismatch(st, name, element, index, given);
+        write_mismatch(rt, st, name, element, index, given);
     }
     st
 }
@@ -62,19 +61,19 @@ fn fields(answer: Answer) -> [u64; 7] {
     }
 }
 
-fn compare_field(s: &[u8], st: State, name: &[u8], given: u64) -> State {
-    compared(number(s, st, u64::MAX), name, false, 0, given)
+fn compare_field(rt: &impl Print, s: &[u8], st: State, name: &str, given: u64) -> State {
+    compared(rt, number(s, st, u64::MAX), name, false, 0, given)
 }
 
-pub(crate) fn compare_answer(s: &[u8], st: State, answer: Answer) -> State {
+pub(crate) fn compare_answer(rt: &impl Print, s: &[u8], st: State, answer: Answer) -> State {
     let given = fields(answer);
-    let st = compare_field(s, st, b"number", given[0]);
-    let st = compare_field(s, st, b"place", given[1]);
-    let st = compare_field(s, st, b"count", given[2]);
-    let st = compare_field(s, st, b"actual", given[3]);
-    let st = compare_field(s, st, b"marks", given[4]);
-    let st = compare_field(s, st, b"deferred", given[5]);
-    compare_field(s, st, b"simplified", given[6])
+    let st = compare_field(rt, s, st, "number", given[0]);
+    let st = compare_field(rt, s, st, "place", given[1]);
+    let st = compare_field(rt, s, st, "count", given[2]);
+    let st = compare_field(rt, s, st, "actual", given[3]);
+    let st = compare_field(rt, s, st, "marks", given[4]);
+    let st = compare_field(rt, s, st, "deferred", given[5]);
+    compare_field(rt, s, st, "simplified", given[6])
 }
 
 fn wide(x: u32) -> u64 {
@@ -82,13 +81,13 @@ fn wide(x: u32) -> u64 {
 }
 
 // A column in a list: how many numbers follow, and these. The others are 0.
-fn compare_u32(s: &[u8], st: State, name: &[u8], column: &[u32]) -> State {
+fn compare_u32(rt: &impl Print, s: &[u8], st: State, name: &str, column: &[u32]) -> State {
     let mut st = number(s, st, column.len() as u64);
     let given = st.value as usize;
     let mut i = 0;
     while i < column.len() {
         st = number_or_zero(s, st, i < given);
-        st = compared(st, name, true, i as u64, wide(column[i]));
+        st = compared(rt, st, name, true, i as u64, wide(column[i]));
         i += 1;
     }
     st
@@ -104,19 +103,20 @@ fn is_set(x: f64) -> u64 {
     1
 }
 
-fn compare_f64(s: &[u8], st: State, name: &[u8], column: &[f64]) -> State {
+fn compare_f64(rt: &impl Print, s: &[u8], st: State, name: &str, column: &[f64]) -> State {
     let mut st = number(s, st, column.len() as u64);
     let given = st.value as usize;
     let mut i = 0;
     while i < column.len() {
         st = number_or_zero(s, st, i < given);
-        st = compared(st, name, true, i as u64, is_set(column[i]));
+        st = compared(rt, st, name, true, i as u64, is_set(column[i]));
         i += 1;
     }
     st
 }
 
 pub(crate) fn compare_columns(
+    rt: &impl Print,
     s: &[u8],
     st: State,
     regions: &[u32],
@@ -129,13 +129,13 @@ pub(crate) fn compare_columns(
     bar_ppms: &[u32],
     scratch: &[f64],
 ) -> State {
-    let st = compare_u32(s, st, b"regions", regions);
-    let st = compare_u32(s, st, b"rule_indices", rule_indices);
-    let st = compare_u32(s, st, b"mark_kinds", mark_kinds);
-    let st = compare_u32(s, st, b"colours", colours);
-    let st = compare_u32(s, st, b"ppms", ppms);
-    let st = compare_u32(s, st, b"shapes", shapes);
-    let st = compare_u32(s, st, b"bar_rules", bar_rules);
-    let st = compare_u32(s, st, b"bar_ppms", bar_ppms);
-    compare_f64(s, st, b"scratch", scratch)
+    let st = compare_u32(rt, s, st, "regions", regions);
+    let st = compare_u32(rt, s, st, "rule_indices", rule_indices);
+    let st = compare_u32(rt, s, st, "mark_kinds", mark_kinds);
+    let st = compare_u32(rt, s, st, "colours", colours);
+    let st = compare_u32(rt, s, st, "ppms", ppms);
+    let st = compare_u32(rt, s, st, "shapes", shapes);
+    let st = compare_u32(rt, s, st, "bar_rules", bar_rules);
+    let st = compare_u32(rt, s, st, "bar_ppms", bar_ppms);
+    compare_f64(rt, s, st, "scratch", scratch)
 }

@@ -8,6 +8,7 @@ use crate::trials::try_runs;
 use model::{Rules, Span};
 
 fn try_regions(
+    rt: &impl Print,
     s: &[u8],
     st: State,
     rows: &[u32],
@@ -31,6 +32,7 @@ fn try_regions(
     let st = read_u8(s, st, &mut pool);
     let c = st.value;
     try_runs(
+        rt,
         s,
         st,
         rows,
@@ -50,6 +52,7 @@ fn try_regions(
 }
 
 fn try_values(
+    rt: &impl Print,
     s: &[u8],
     st: State,
     rows: &[u32],
@@ -70,6 +73,7 @@ fn try_values(
     let st = read_u32(s, st, &mut lens);
     let c = st.value;
     try_regions(
+        rt,
         s,
         st,
         rows,
@@ -85,7 +89,7 @@ fn try_values(
     )
 }
 
-fn try_cells(s: &[u8], st: State, name: Span, rules: Rules, start: u64) -> State {
+fn try_cells(rt: &impl Print, s: &[u8], st: State, name: Span, rules: Rules, start: u64) -> State {
     let mut rows = [0u32; 1040];
     let mut cols = [0u16; 1040];
     let mut kinds = [0u8; 1040];
@@ -99,6 +103,7 @@ fn try_cells(s: &[u8], st: State, name: Span, rules: Rules, start: u64) -> State
     let st = read_u8(s, st, &mut wraps);
     let d = st.value;
     try_values(
+        rt,
         s,
         st,
         front_u32(&rows, a),
@@ -111,20 +116,20 @@ fn try_cells(s: &[u8], st: State, name: Span, rules: Rules, start: u64) -> State
     )
 }
 
-fn try_rules(s: &[u8], st: State, name: Span, start: u64) -> State {
+fn try_rules(rt: &impl Print, s: &[u8], st: State, name: Span, start: u64) -> State {
     let st = number(s, st, u64::MAX);
     let told = st.value as usize;
     let mut words = [0u64; 2048];
     let st = read_u64(s, st, &mut words);
-    try_cells(s, st, name, rules_of(&words, told), start)
+    try_cells(rt, s, st, name, rules_of(&words, told), start)
 }
 
-pub(crate) fn try_job(s: &[u8], st: State) -> State {
+pub(crate) fn try_job(rt: &impl Print, s: &[u8], st: State) -> State {
     let st = number(s, st, u64::MAX);
     let start = st.value;
     let st = number(s, st, 4294967295);
     let at = narrow32(st.value);
     let st = number(s, st, 4294967295);
     let len = narrow32(st.value);
-    try_rules(s, st, Span { at, len }, start)
+    try_rules(rt, s, st, Span { at, len }, start)
 }

@@ -152,7 +152,7 @@ fn decimal(s: &[u8], from: usize) -> Digits {
 
 // The part that is at hand begins where the reader stands.
 pub(crate) fn moved(mut st: State) -> State {
-    st.from = std::num::wrapping_add_u64(st.from, st.at as u64);
+    st.from = st.from.wrapping_add(st.at as u64);
     st.at = 0;
     st
 }
@@ -217,5 +217,5 @@ pub(crate) fn narrow32(x: u64) -> u32 {
 }
 
 pub(crate) fn one_more(n: u64) -> u64 {
-    std::num::wrapping_add_u64(n, 1)
+    n.wrapping_add(1)
 }

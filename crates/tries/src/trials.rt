@@ -36,6 +36,7 @@ fn lent_f64() -> [f64; 1040]
 
 // The call, and each value that it gives.
 fn try_call(
+    rt: &impl Print,
     s: &[u8],
     st: State,
     rows: &[u32],
@@ -88,8 +89,9 @@ fn try_call(
         scratch,
     );
     compare_columns(
+        rt,
         s,
-        compare_answer(s, st, answer),
+        compare_answer(rt, s, st, answer),
         regions,
         rule_indices,
         mark_kinds,
@@ -104,6 +106,7 @@ fn try_call(
 
 // The other five columns that are lent.
 fn lend_more(
+    rt: &impl Print,
     s: &[u8],
     st: State,
     rows: &[u32],
@@ -136,6 +139,7 @@ fn lend_more(
     let h = number(s, g, 1040);
     let i = number(s, h, 1040);
     try_call(
+        rt,
         s,
         i,
         rows,
@@ -166,6 +170,7 @@ fn lend_more(
 
 // A run: the limit, and the first four of the columns that are lent.
 fn try_run(
+    rt: &impl Print,
     s: &[u8],
     st: State,
     rows: &[u32],
@@ -193,6 +198,7 @@ fn try_run(
     let c = number(s, b, 1040);
     let d = number(s, c, 1040);
     lend_more(
+        rt,
         s,
         d,
         rows,
@@ -218,6 +224,7 @@ fn try_run(
 
 // How many runs, and these.
 pub(crate) fn try_runs(
+    rt: &impl Print,
     s: &[u8],
     st: State,
     rows: &[u32],
@@ -245,6 +252,7 @@ pub(crate) fn try_runs(
         st.run = one_more(st.run);
         st.runs = one_more(st.runs);
         st = try_run(
+            rt,
             s,
             st,
             rows,

@@ -5,7 +5,7 @@ use mathlib.Core.Bool.{Bool}
 use mathlib.Core.List.{List, [], ◌∷◌, map}
 use native.Mathlib.Omega.{arith}
 use lib.Ieee.{Float, nan}
-use lib.ListN.{length, get_or, replicate}
+use lib.ListN.{length, get_or, replicate, set}
 use lib.Seq.{sets}
 use Rattle.model.specs.declared.Outcome.{Outcome}
 use Rattle.model.specs.declared.Rule.{Rule}
@@ -57,4 +57,7 @@ pub put_hits : (t : Test) (imported : Bool) (values : List Float) (rule : ℕ) (
     (sets f n (map (λ h. shape_by t (get_or values h nan)) hs))
 unfolding put_marks put_mark
 put_hits t imported values rule a b c d e f n [] = refl
-put_hits t imported values rule a b c d e f n (h ∷ hs) = put_hits t imported values rule _ _ _ _ _ _ (suc n) hs
+put_hits t imported values rule a b c d e f n (h ∷ hs) =
+    let x = get_or values h nan in
+    put_hits t imported values rule (set a n h) (set b n rule) (set c n (kind_by t imported)) (set d n (colour_by t imported x))
+    (set e n (ppm_by t x)) (set f n (shape_by t x)) (suc n) hs

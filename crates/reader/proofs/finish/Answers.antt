@@ -1,6 +1,5 @@
 -- `reader::finish` meets its contract, case by case. Assumes nothing.
 use Rattle.reader.proofs.Texts.{sections_refused, line_too_many, columns_short, pool_short, all_read}
-use native.Mathlib.Omega.{arith}
 use Rattle.reader.proofs.finish.Goals as goal
 
 pub returns-then-not-body : goal.returns-then-not-body

@@ -1,4 +1,3 @@
-use Prim.Native.Nat.{◌-◌}
 use native.Mathlib.Omega.{arith}
 use Rattle.reader.proofs.LineCounts.{counted_within, counted_past, counted_feed, counted_on, counted_done}
 use Rattle.reader.proofs.line_of.Goals as goal

@@ -11,22 +11,16 @@ use Rattle.report.proofs.put_answer.Goals as goal
 
 pub put_mark_lines-marks-requires : goal.put_mark_lines-marks-requires
 put_mark_lines-marks-requires c =
-    let start = c
-    in
-    laid_ready c.put_bytes-marknames.ensures (omega (arith, start.good.0))
+    laid_ready c.put_bytes-marknames.ensures (omega (arith, c.well_formed.0))
 
 pub put_bar_lines-requires : goal.put_bar_lines-requires
 put_bar_lines-requires c =
-    let start = c
-    in
-    laid_ready c.put_bytes-barnames.ensures (omega (arith, start.good.0))
+    laid_ready c.put_bytes-barnames.ensures (omega (arith, c.well_formed.0))
 
 pub returns : goal.returns
 unfolding bytes mark_names bar_names marks_text bars_text
 returns c =
-    let start = c
-    in
-    let room : length start.args.text.now < last = omega (arith, start.good.0) in
+    let room : length c.args.text.now < last = omega (arith, c.well_formed.0) in
     let lines = stops_then (stops_of_laid room c.put_bytes-marknames.ensures) c.put_mark_lines-marks.ensures in
     let names = stops_of_laid (omega (arith, stops_length lines)) c.put_bytes-barnames.ensures in
     stops_as (stops_then (stops_then lines names) c.put_bar_lines.ensures) (simp append_assoc)

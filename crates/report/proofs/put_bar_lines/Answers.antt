@@ -1,8 +1,6 @@
-use Prim.Native.Nat.{◌-◌}
 use native.Mathlib.Omega.{arith}
 use mathlib.Core.Path.{sym}
 use lib.ListN.{length}
-use borrow.Author.Rules.{rules}
 use Rattle.put.proofs.Laws.{left_begun, left_done, left_stopped, laid_as, stops_of_laid, stops_as}
 use Rattle.report.proofs.Lines.{bars_all, bars_more, bars_none}
 use Rattle.report.proofs.put_bar_lines.Goals as goal

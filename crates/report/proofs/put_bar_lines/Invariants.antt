@@ -2,7 +2,6 @@
 -- all lines give from the start. A line that is put is the first of them. The measure is how many regions are left. Assumes nothing.
 use Prim.Native.Nat.{◌-◌}
 use lib.ListN.{length}
-use borrow.Author.Rules.{rules}
 use Rattle.put.proofs.Laws.{LaidLeft}
 use Rattle.report.proofs.Lines.{bars_from}
 use Rattle.report.proofs.put_bar_lines.Given as goal

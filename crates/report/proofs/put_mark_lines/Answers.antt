@@ -1,4 +1,3 @@
-use Prim.Native.Nat.{◌-◌}
 use native.Mathlib.Omega.{arith}
 use mathlib.Core.Path.{sym}
 use Rattle.put.proofs.Laws.{left_begun, left_done, left_stopped, stops_of_laid, stops_as}

@@ -2,7 +2,6 @@
 -- the flag of one rule more. The measure is what is left of the 64 records. Assumes nothing.
 use Prim.Native.Nat.{ℕ, ◌-◌}
 use mathlib.Core.Path.{◌≡◌}
-use borrow.Author.Rules.{rules}
 use lib.ListN.{length, take}
 use Rattle.reporttext.specs.Report.{shaped_at}
 use Rattle.report.specs.Shaped.{shaped_in}

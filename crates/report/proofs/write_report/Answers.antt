@@ -4,7 +4,6 @@ use Prim.Native.Nat.{◌<◌}
 use native.Mathlib.Omega.{arith}
 use mathlib.Core.Path.{sym, ap, ◌∙◌}
 use lib.ListN.{length, take}
-use borrow.Author.Rules.{rules}
 use Rattle.model.specs.Answer.{Summary}
 use Rattle.put.specs.Put.{last}
 use Rattle.put.proofs.Laws.{laid_as, stops_of_laid, stops_then, stops_as}
