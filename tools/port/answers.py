@@ -68,12 +68,14 @@ class Function:
             if it[2][0]:
                 self.only.setdefault(plain(it[2][0]), set()).add(it[2][1])
         self.only = {k: next(iter(v)) for k, v in self.only.items() if len(v) == 1}
+        self.typed = {it[0]: of["typed"][i] for i, it in enumerate(of["places"])} if len(of["typed"]) == len(of["places"]) else {}
         # each loop: its name, and its variables with whether the loop changes them
         self.loops = [(it[0][1], list(zip(it[1], of["changed"][i]))) for i, it in enumerate(of.get("loops", []))]
 
     def steps_at(self, place):
         """The steps on the way to a place: names as they were to names now, and parts of arms."""
         steps, parts = {}, {}
+        first = place
         while place:
             parent, was, now, arm = self.places[place]
             if was:
@@ -84,6 +86,8 @@ class Function:
             place = parent
         for k, v in self.only.items():
             steps.setdefault(k, v)
+        for name, step in self.typed.get(first, []):
+            parts.setdefault((plain(step), ("given",)), ("type_inv", name))
         return steps, parts
 
 
@@ -111,6 +115,8 @@ def chains(text, steps, parts, note):
                     rest[0] = rest[0].replace("-", "_")
                 if rest and (had or head in note.records):
                     k = plain(rest[0])
+                    if k not in steps and k.endswith("-lem") and k[:-4] in steps:
+                        k = k[:-4]
                     part = next((n for n in range(len(rest) - 1, 0, -1) if (k, tuple(rest[1 : n + 1])) in parts), None)
                     if part:
                         arm, field = parts[k, tuple(rest[1 : part + 1])]
@@ -122,6 +128,8 @@ def chains(text, steps, parts, note):
                     elif re.fullmatch(r"(.*\D)\d", k) and k[:-1] in steps:
                         rest[0] = steps[k[:-1]]
                     rest = [OWN.get(r, r) for r in rest]
+                    if rest[0] == "pre":
+                        rest[0] = "requires"
                     if len(rest) > 1:
                         rest[1] = {"last": "new", "kept": "auto", "inv": "invariant"}.get(rest[1], rest[1])
                     if len(rest) > 1 and rest[1] == "taken":
@@ -288,10 +296,23 @@ def branched(body, goals_used):
 def opened_lets(body):
     """Without names for what an arm or a call gives."""
     while True:
-        m = re.search(r"let (\w+) =\s+((?:c|\w+)(?:\.[\w-]+)*\.given(?:\.[01])*)\s+in\s+", body)
+        m = re.search(r"let (\w+) =\s+((?:c|\w+)(?:\.[\w-]+)*\.(?:given(?:\.[01])*|requires|pre|ensures))\s+in\s+", body)
         if not m:
             return body
         body = body[: m.start()] + re.sub(rf"(?<![\w.'-]){m[1]}(?![\w'-])", lambda _: m[2], body[m.end() :])
+
+
+def projected(body, f, projections, at, goals_used):
+    """A call of a projection by the name of its place."""
+    for p, place in projections.items():
+        now = f.by_name.get(place, place)
+        body = re.sub(rf"\({re.escape(p)} c\)\.", "c.", body)
+        found = re.sub(rf"\({re.escape(p)} c\)", f"({at} c).{now}", body)
+        found = re.sub(rf"(?<![\w.'-]){re.escape(p)} c(?![\w.'-])", f"({at} c).{now}", found)
+        if found != body:
+            goals_used.add(now)
+        body = found
+    return body
 
 
 def depth(f, place, above):
@@ -350,7 +371,18 @@ def turn(crate, path, f, clauses, out_said):
         else:
             items.append(("helper", own, block, m))
     goals_used = set()
+    shared = []
     helpers = {}
+    projections = {}
+    for kind, own, block, m in items:
+        if kind != "helper":
+            continue
+        # a function from the record at one place to that at an earlier one
+        flat = " ".join(re.sub(r"(?m)^--.*\n", "", block).split())
+        mp = re.fullmatch(rf"(?:abbrev )?{re.escape(own)} : (?:\(c : )?tie\.[\w-]+(?: (?:invariant|decreases)-loop\d*)*\)? → tie\.([\w-]+)(?: (?:invariant|decreases)-loop\d*)* {re.escape(own)} c = (.*)", flat)
+        if mp and place_of(f, mp[1]) and re.fullmatch(r"c(?:\.before)*|\(?[\w-]+ \(?c(?:\.before)*\)?\)?", mp[2]):
+            projections[own] = place_of(f, mp[1])
+    items = [it for it in items if it[1] not in projections]
     for kind, own, block, m in items:
         place = re.search(r"\btie\.([\w-]+)", block)
         if kind == "helper" and place and place_of(f, place[1]):
@@ -366,7 +398,8 @@ def turn(crate, path, f, clauses, out_said):
                 used[k] = n + 1
             if new:
                 renamed[own] = new
-    invs, answers, said = [], [], []
+    invs, answers, said, told = [], [], [], {}
+    in_invariants = " ".join(block for kind, _, block, _ in items if kind in ("invariant", "decreases"))
     k = {"invariant": 0, "decreases": 0}
     for kind, own, block, m in items:
         if kind == "goal":
@@ -380,11 +413,12 @@ def turn(crate, path, f, clauses, out_said):
                 continue
             unf = [l for l in lines[body_at:] if l.startswith("unfolding ")]
             eq = "\n".join(lines[body_at + len(unf):])
-            mm = re.match(rf"{re.escape(own)}((?: [^\s=]+)*) =\s*(.*)\Z", eq, re.S)
+            mm = re.match(rf"{re.escape(own)}((?:\s+[^\s=]+)*)\s+=\s*(.*)\Z", eq, re.S)
             if not mm:
                 said.append(f"{path}: {own}: equation not read")
                 continue
             binders, body = mm[1].split(), mm[2]
+            told[own] = "omega arith"
             if not unf and " ".join(body.split()) in TRIVIAL or body.strip() == "tt" and "κs" in binders:
                 continue
             if own not in renamed:
@@ -395,12 +429,15 @@ def turn(crate, path, f, clauses, out_said):
             new = renamed[own]
             if new.startswith("shape_of-"):
                 continue
+            for other in sorted(told, key=len, reverse=True):
+                body = re.sub(rf"(?<![\w.'-]){re.escape(other)} c(?:\.before)*(?![\w.'-])", lambda _: f"({told[other]})", body)
             body = opened_lets(body)
             # names bound to parts of the record
             note.records = {"c", *re.findall(r"let (\w+) =\s+\w+(?:\.before)*\s+in", body)}
             body = inlined(chains(body, *f.steps_at(f.at[new]), note))
             body = re.sub(r"(?<![\w.])(c\.[\w-]+\.[\w-]+-own\.(?:keys\d+|rest))(?![\w.])", r"(opened \1)", body)
             body = branched(named(body, f, clauses, clauses.get(key_of(name, path), ([], []))), goals_used)
+            body = projected(body, f, projections, f"goal.at.{new}", goals_used)
             for h, at in helpers.items():
                 if at != f.at[new]:
                     body = re.sub(rf"(?<![\w.'-]){re.escape(h)} c(?![\w.'-])", f"{h} (goal.at.{new} c).{f.by_name.get(at, at)}", body)
@@ -410,15 +447,16 @@ def turn(crate, path, f, clauses, out_said):
                 callee = next((it for it in f.callees if it.split("::")[-1] == re.split(r"-", new)[0]), None)
                 if callee:
                     body = recorded(body, clauses.get(key_of(callee.split("::")[0], callee), ([], []))[0])
+            told[own] = body
             sep = "\n    " if "\n" in mm[2] or eq[len(own) + len(mm[1]) + 2 : len(own) + len(mm[1]) + 4].strip() == "" else " "
             answers.append(comments + f"pub {new} : goal.{new}\n" + "".join(u + "\n" for u in unf) + f"{new}{''.join(' ' + b for b in binders)} ={sep}{body.strip()}")
         elif kind in ("invariant", "decreases"):
             comments, words, _, implicit, rest = m.groups()
             lines = rest.split("\n")
-            body_at = next((i for i, l in enumerate(lines) if l.startswith(own + " ")), None)
+            body_at = next((i for i, l in enumerate(lines) if l == own or l.startswith(own + " ")), None)
             unf = [l for l in lines[:body_at] if l.startswith("unfolding ")]
             eq = "\n".join(lines[body_at:])
-            mm = re.match(rf"{re.escape(own)}((?: [^\s=]+)*) =\s*(.*)\Z", eq, re.S)
+            mm = re.match(rf"{re.escape(own)}((?:\s+[^\s=]+)*)\s+=\s*(.*)\Z", eq, re.S)
             binders, body = mm[1].split(), mm[2]
             loop, variables = f.loops[k[kind]]
             k[kind] += 1
@@ -450,12 +488,20 @@ def turn(crate, path, f, clauses, out_said):
                     note.records = {"c", *re.findall(r"let (\w+) =\s+\w+(?:\.before)*\s+in", block)}
                     block = re.sub(r"\btie\.([\w-]+)((?: (?:invariant|decreases)-loop\d*)*)", lambda x: places_now(f, x[1], goals_used), block)
                     block = chains(opened_lets(block), *f.steps_at(old), note)
+                    here = f"goal.at.{f.by_name.get(old, old)}"
+                    block = projected(block, f, projections, here, goals_used)
                     for h, at in helpers.items():
-                        n = depth(f, old, at)
-                        if n and h != own:
-                            block = re.sub(rf"(?<![\w.'-]){re.escape(h)} c(?![\w.'-])", h + " c" + ".before" * n, block)
+                        if at != old and h != own:
+                            block = re.sub(rf"(?<![\w.'-]){re.escape(h)} c(?![\w.'-])", f"{h} ({here} c).{f.by_name.get(at, at)}", block)
                     block = re.sub(r"(?<![\w.])(c\.[\w-]+\.[\w-]+-own\.(?:keys\d+|rest))(?![\w.])", r"(opened \1)", block)
                     block = branched(named(block, f, clauses, clauses.get(key_of(name, path), ([], []))), goals_used)
+            if not place and own and re.search(rf"(?<![\w.'-]){re.escape(own)}(?![\w'-])", in_invariants):
+                block = re.sub(r"(?m)^((?:abbrev|unfoldable) )(?!pub)", r"\1pub ", block)
+                if not re.search(r"(?m)^(?:abbrev |unfoldable )?pub ", block):
+                    block = re.sub(rf"(?m)^(?={re.escape(own)} :)", "pub ", block)
+                invs.append(block)
+                shared.append(own)
+                continue
             answers.append(block)
     folder = os.path.join(crate, "proofs", path)
     header = "\n".join(head) + ("\n" if head else "")
@@ -491,9 +537,12 @@ def turn(crate, path, f, clauses, out_said):
         body = "\n\n".join(answers)
         with open(os.path.join(folder, "Answers.antt"), "w", encoding="utf-8") as o:
             goals = sorted(goals_used)
+            from_invariants = [n for n in shared if re.search(rf"(?<![\w.'-]){re.escape(n)}(?![\w'-])", body)]
             named_goals = [f"use {module}.Goals.{{{', '.join(goals)}}}"] if goals else []
             also = ["use borrow.Enum.Refused.{opened}"] if "(opened " in body else []
-            o.write(("" if invs else header) + "\n".join(brought(body) + also + [f"use {module}.Goals as goal"] + named_goals) + "\n\n" + body + "\n")
+            if re.search(r"\barith\b", body) and not any("arith" in u for u in keep_uses):
+                also.append("use native.Mathlib.Omega.{arith}")
+            o.write(("" if invs else header) + "\n".join(brought(body) + also + ([f"use {module}.Invariants.{{{', '.join(from_invariants)}}}"] if from_invariants else []) + [f"use {module}.Goals as goal"] + named_goals) + "\n\n" + body + "\n")
     os.remove(proof)
     if not os.listdir(folder):
         os.rmdir(folder)

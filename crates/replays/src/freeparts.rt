@@ -283,7 +283,7 @@ fn rounds(
             region_cols,
             second,
         );
-        n = std::num::wrapping_add_u64(n, if same { 0 } else { 1 });
+        n = n.wrapping_add(if same { 0 } else { 1 });
         round += 1;
     }
     n

@@ -2,7 +2,6 @@
 use crate::random::{drawn, low8, low16, low32, scrambled};
 use model::Span;
 use readings::text::text_at;
-use std::num::wrapping_add_u64;
 
 // The bytes of each pool.
 pub(crate) const POOL: usize = 65536;
@@ -34,12 +33,12 @@ fn product(a: u32, b: u16) -> u64 {
 // How far before the end of the second pool a text ends.
 fn room_behind(l: Layout, at: u32) -> u64 {
     let more = drawn(l.seed, 2, at as usize) % (l.width as u64 + 1);
-    wrapping_add_u64(product(at, l.width), wrapping_add_u64(at as u64, more))
+    product(at, l.width).wrapping_add((at as u64).wrapping_add(more))
 }
 
 // Where a text of the first pool stands in the second.
 pub(crate) fn moved(l: Layout, span: Span) -> Span {
-    let back = wrapping_add_u64(room_behind(l, span.at), span.len as u64);
+    let back = room_behind(l, span.at).wrapping_add(span.len as u64);
     if back > POOL as u64 {
         return span;
     }

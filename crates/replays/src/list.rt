@@ -1,5 +1,8 @@
 // A list in a file: a line `job N`, N bytes, a line `report M`, M bytes, and so on, at the end a line `end COUNT`.
-ghost use Rattle.io.specs.Counts.{IsPrefixLen};
+ghost use Rattle.std.specs.Prelude.{◌≤◌, length};
+
+use std::fs::File;
+use std::os::unix::fs::FileExt;
 
 // What is wrong with a list.
 pub(crate) const ENDS_EARLY: u8 = 1;
@@ -118,26 +121,20 @@ fn line_of(s: &[u8], word: &[u8]) -> Line {
 }
 
 // A place in a file, as the system takes it.
-fn offset(at: u64) -> i64 {
-    if at < 0x7fff_ffff_ffff_ffff {
-        at as i64
-    } else {
-        0
-    }
+fn offset(at: u64) -> u64 {
+    if at < 0x7fff_ffff_ffff_ffff { at } else { 0 }
 }
 
 fn later(at: u64, n: u64) -> u64 {
-    std::num::wrapping_add_u64(at, n)
+    at.wrapping_add(n)
 }
 
 // The line at a place, of at most 28 bytes, with a number of at most `most`.
-pub(crate) fn read_line(fd: i32, at: u64, word: &[u8], most: u64) -> Line {
+pub(crate) fn read_line(file: &File, at: u64, word: &[u8], most: u64) -> Line {
     let mut part = [0u8; 32];
-    let got = libc::pread(fd, &mut part, offset(at));
-    if got < 0 {
+    let Ok(n) = file.read_at(&mut part, offset(at)) else {
         return faulty(UNREADABLE);
-    }
-    let n = io::count(got, &part);
+    };
     let mut read = line_of(&part[..n], word);
     if read.number > most {
         return faulty(TOO_LARGE);
@@ -147,20 +144,19 @@ pub(crate) fn read_line(fd: i32, at: u64, word: &[u8], most: u64) -> Line {
 }
 
 // The bytes from a place on.
-pub(crate) fn read_bytes(fd: i32, at: u64, length: u64, buffer: &mut [u8]) -> Part
-    ensures { IsPrefixLen result.length buffer.new }
+pub(crate) fn read_bytes(file: &File, at: u64, count: u64, buffer: &mut [u8]) -> Part
+    ensures { result.length ≤ length buffer.new }
 {
-    let next = later(at, length);
-    let got = libc::pread(fd, buffer, offset(at));
-    if got < 0 {
+    let next = later(at, count);
+    let Ok(got) = file.read_at(buffer, offset(at)) else {
         return Part {
             length: 0,
             next,
             fault: UNREADABLE,
         };
-    }
-    let length = length as usize;
-    if io::count(got, buffer) < length {
+    };
+    let length = count as usize;
+    if got < length {
         return Part {
             length: 0,
             next,
@@ -175,14 +171,11 @@ pub(crate) fn read_bytes(fd: i32, at: u64, length: u64, buffer: &mut [u8]) -> Pa
 }
 
 // The fault of a list that goes on at a place where it has to end.
-pub(crate) fn end_fault(fd: i32, at: u64) -> u8 {
+pub(crate) fn end_fault(file: &File, at: u64) -> u8 {
     let mut part = [0u8; 1];
-    let got = libc::pread(fd, &mut part, offset(at));
-    if got < 0 {
-        return UNREADABLE;
+    match file.read_at(&mut part, offset(at)) {
+        Ok(0) => 0,
+        Ok(_) => GOES_ON,
+        Err(_) => UNREADABLE,
     }
-    if got > 0 {
-        return GOES_ON;
-    }
-    0
 }

@@ -174,7 +174,7 @@ pub(crate) fn differing() -> u64 {
     let mut try_number = 0;
     while try_number <= LONGER {
         if !same(try_number) {
-            n = std::num::wrapping_add_u64(n, 1);
+            n = n.wrapping_add(1);
         }
         try_number += 1;
     }

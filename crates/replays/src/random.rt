@@ -7,13 +7,13 @@ pub(crate) fn scrambled(x: u64) -> u64 {
 }
 
 fn mixed(x: u64) -> u64 {
-    let a = scrambled(std::num::wrapping_add_u64(x, 0x9e37_79b9_7f4a_7c15));
-    scrambled(std::num::wrapping_add_u64(a, 0xbf58_476d_1ce4_e5b9))
+    let a = scrambled(x.wrapping_add(0x9e37_79b9_7f4a_7c15));
+    scrambled(a.wrapping_add(0xbf58_476d_1ce4_e5b9))
 }
 
 pub(crate) fn drawn(seed: u64, purpose: u64, i: usize) -> u64 {
-    let stream = mixed(std::num::wrapping_add_u64(mixed(seed), purpose));
-    mixed(std::num::wrapping_add_u64(stream, i as u64))
+    let stream = mixed(mixed(seed).wrapping_add(purpose));
+    mixed(stream.wrapping_add(i as u64))
 }
 
 // ---- the last bits of a number

@@ -1,9 +1,8 @@
 // A job text saved again: the same text, or the report of a job that saving refuses as deciding does.
-ghost use Rattle.io.specs.Counts.{IsPrefixLen};
+ghost use Rattle.std.specs.Prelude.{◌≤◌, length};
 
 use crate::list::difference;
 use lent::at_u8;
-use std::num::wrapping_add_usize;
 
 pub(crate) const EQUAL: u8 = 1;
 
@@ -34,17 +33,17 @@ fn second_line(report: &[u8]) -> usize {
 fn is_refused(report: &[u8]) -> bool {
     let line = second_line(report);
     let a = at_u8(report, line);
-    let b = at_u8(report, wrapping_add_usize(line, 1));
+    let b = at_u8(report, line.wrapping_add(1));
     if b == b' ' {
         return a == b'2' || a == b'3' || a == b'4';
     }
-    let c = at_u8(report, wrapping_add_usize(line, 2));
+    let c = at_u8(report, line.wrapping_add(2));
     a == b'1' && (b == b'0' || b == b'1') && c == b' '
 }
 
 // The saved text or a refused report: how many of the lent bytes it takes.
 fn save_text(text: &[u8], saved: &mut [u8]) -> usize
-    ensures { IsPrefixLen result saved.new }
+    ensures { result ≤ length saved.new }
 {
     resave::save_job(text, saved)
 }

@@ -10,7 +10,7 @@ use mathlib.Core.Option.{some}
 use lib.Dec.{ltb, eqb}
 use lib.ListN.{length}
 use borrow.Author.Tests.{lt-ltb, le-ltb, ne_eqb}
-use Rattle.memory.specs.Memory.{page_of, page}
+use Rattle.memory.specs.Memory.{page}
 use Rattle.memory.proofs.Laws.{page_refused}
 use Rattle.model.specs.Answer.{Summary, refusal, answer}
 use Rattle.model.specs.Job.{Job, malformed}

@@ -5,15 +5,6 @@ use Rattle.a1reader.proofs.store_name.Goals as goal
 pub loop-i-init : goal.loop-i-init
 loop-i-init c = left_begun _ _ _ _
 
-pub bounds-name-i : goal.bounds-name-i
-bounds-name-i c = omega arith
-
-pub overflow_add-q : goal.overflow_add-q
-overflow_add-q c = omega arith
-
-pub overflow_add-q-then-b-eq39 : goal.overflow_add-q-then-b-eq39
-overflow_add-q-then-b-eq39 c = omega arith
-
 pub loop-i-preserved-then-b-eq39 : goal.loop-i-preserved-then-b-eq39
 loop-i-preserved-then-b-eq39 c = left_quote c.loop-i.invariant (omega arith) c.at_u8-b.ensures c.if-b-eq39.true
 

@@ -6,18 +6,9 @@ use Rattle.a1writer.proofs.all_word_bytes.Goals as goal
 pub loop-i-init : goal.loop-i-init
 loop-i-init c = every_begun
 
-pub bounds-name-i : goal.bounds-name-i
-bounds-name-i c = omega arith
-
 pub returns-then-not-is_word_byte : goal.returns-then-not-is_word_byte
 returns-then-not-is_word_byte c =
     every_failed c.loop-i.invariant c.loop-i-test.true (sym c.is_word_byte.ensures ∙ c.if-not-is_word_byte.true)
-
-pub overflow_add-i : goal.overflow_add-i
-overflow_add-i c = omega arith
-
-pub loop-i-smaller : goal.loop-i-smaller
-loop-i-smaller c = omega arith
 
 pub loop-i-preserved : goal.loop-i-preserved
 loop-i-preserved c =

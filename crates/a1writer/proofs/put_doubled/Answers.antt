@@ -9,15 +9,6 @@ use Rattle.a1writer.proofs.put_doubled.Goals.{else-b-eq39, then-b-eq39}
 pub loop-i-init : goal.loop-i-init
 loop-i-init c = doubling_begun c.requires
 
-pub bounds-name-i : goal.bounds-name-i
-bounds-name-i c = omega arith
-
-pub overflow_add-i : goal.overflow_add-i
-overflow_add-i c = omega arith
-
-pub loop-i-smaller : goal.loop-i-smaller
-loop-i-smaller c = omega arith
-
 pub loop-i-preserved : goal.loop-i-preserved
 loop-i-preserved c =
     let left = c.loop-i.invariant in

@@ -23,8 +23,7 @@ returns-then-not-fits c =
     let told = lines_refused _ _ _ _
     (columns a.rows.now a.cols.now a.kinds.now a.wraps.now a.nums.now a.ats.now a.lens.now) a.pool.now
     c.has_room.ensures c.if-not-has_room.false c.read_lines-r.result
-    (columns x.rows x.cols x.kinds x.wraps x.nums x.ats x.lens) (columns
-    t.rows t.cols t.kinds t.wraps t.nums t.ats t.lens) t.pool
+    (columns x.rows x.cols x.kinds x.wraps x.nums x.ats x.lens) (columns t.rows t.cols t.kinds t.wraps t.nums t.ats t.lens) t.pool
     c.all_within-held.result c.clear_columns.ensures c.read_lines-r.ensures
     (record {
       rows = v.rows;
@@ -44,7 +43,8 @@ returns-then-not-fits c =
       ats = w.ats;
       lens = w.lens;
     }) w.pool
-    c.all_within-held.ensures c.within-fits.ensures (columns y.rows y.cols y.kinds y.wraps y.nums y.ats y.lens) y.pool c.if-not-fits.true c.clear_cells-then-not-fits.ensures.lens_after c.clear_cells-then-not-fits.ensures.pool_after in
+    c.all_within-held.ensures c.within-fits.ensures (columns y.rows y.cols y.kinds y.wraps y.nums y.ats y.lens) y.pool c.if-not-fits.true
+    c.clear_cells-then-not-fits.ensures.lens_after c.clear_cells-then-not-fits.ensures.pool_after in
     record { value = told.0; lens_after = told.1 }
 
 pub returns-else-not-fits : goal.returns-else-not-fits
@@ -57,8 +57,7 @@ returns-else-not-fits c =
     let told = lines_read _ _ _ _
     (columns a.rows.now a.cols.now a.kinds.now a.wraps.now a.nums.now a.ats.now a.lens.now) a.pool.now
     c.has_room.ensures c.if-not-has_room.false c.read_lines-r.result
-    (columns x.rows x.cols x.kinds x.wraps x.nums x.ats x.lens) (columns
-    t.rows t.cols t.kinds t.wraps t.nums t.ats t.lens) t.pool
+    (columns x.rows x.cols x.kinds x.wraps x.nums x.ats x.lens) (columns t.rows t.cols t.kinds t.wraps t.nums t.ats t.lens) t.pool
     c.all_within-held.result c.clear_columns.ensures c.read_lines-r.ensures
     (record {
       rows = v.rows;

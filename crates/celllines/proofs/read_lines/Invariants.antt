@@ -7,8 +7,9 @@ use Rattle.celllines.proofs.read_lines.Given as goal
 
 abbrev pub invariant-loop-i : goal.invariant-loop-i
 invariant-loop-i l = Rest
-    l.s l.at l.number l.used (columns l.initial.rows l.initial.cols l.initial.kinds l.initial.wraps l.initial.nums l.initial.ats l.initial.lens) l.initial.pool (columns l.rows l.cols l.kinds l.wraps l.nums l.ats l.lens) l.pool l.q l.u l.i
+    l.s l.at l.number l.used
+    (columns l.initial.rows l.initial.cols l.initial.kinds l.initial.wraps l.initial.nums l.initial.ats l.initial.lens) l.initial.pool
+    (columns l.rows l.cols l.kinds l.wraps l.nums l.ats l.lens) l.pool l.q l.u l.i
 
 abbrev pub decreases-loop-i : goal.decreases-loop-i
-decreases-loop-i l = l.number
-    - l.i
+decreases-loop-i l = l.number - l.i

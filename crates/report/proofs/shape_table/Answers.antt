@@ -14,7 +14,7 @@ pub loop-i-preserved : goal.loop-i-preserved
 loop-i-preserved c =
     let loop = c.loop-i in
     let rules = c.args.rules in
-    let long : length rules.records ≡ 64 = search (rules, length_mapped) in (
+    let long : length rules.records ≡ 64 = omega arith in (
       simp length-set loop.invariant.0,
       flag_more loop.table rules.records rules.number loop.i _ c.shape_flag.ensures loop.invariant.1 (omega arith)
           (omega arith) c.if-i-number.true,
@@ -30,5 +30,5 @@ pub returns-after-loop-i : goal.returns-after-loop-i
 returns-after-loop-i c =
     let loop = c.loop-i in
     let rules = c.args.rules in
-    let long : length rules.records ≡ 64 = search (rules, length_mapped) in
+    let long : length rules.records ≡ 64 = omega arith in
     flags_ended loop.table rules.records rules.number loop.i loop.invariant.1 (omega arith)

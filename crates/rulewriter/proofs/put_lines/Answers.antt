@@ -10,18 +10,6 @@ use Rattle.rulewriter.proofs.put_lines.Goals as goal
 pub loop-i-init : goal.loop-i-init
 loop-i-init c = (search (rules, length_mapped), left_begun c.requires)
 
-pub offset_bounds-records-i : goal.offset_bounds-records-i
-offset_bounds-records-i c = omega arith
-
-pub bounds-records-i : goal.bounds-records-i
-bounds-records-i c = omega arith
-
-pub overflow_add-i : goal.overflow_add-i
-overflow_add-i c = omega arith
-
-pub loop-i-smaller : goal.loop-i-smaller
-loop-i-smaller c = omega arith
-
 pub loop-i-preserved : goal.loop-i-preserved
 loop-i-preserved c =
     let loop = c.loop-i in

@@ -7,22 +7,10 @@ use Rattle.checks.proofs.names.first_bad_rule.Goals as goal
 pub loop-i-init : goal.loop-i-init
 loop-i-init c = (search (rules, length_mapped), refl)
 
-pub offset_bounds-records-i : goal.offset_bounds-records-i
-offset_bounds-records-i c = omega arith
-
-pub bounds-records-i : goal.bounds-records-i
-bounds-records-i c = omega arith
-
 pub returns-then-bad_kind : goal.returns-then-bad_kind
 returns-then-bad_kind c =
     let inv = c.loop-i.invariant in
     rule_found _ _ _ _ _ inv.1 (omega arith) c.if-i-number.true (sym c.bad_kind.ensures ∙ c.if-bad_kind.true)
-
-pub overflow_add-i : goal.overflow_add-i
-overflow_add-i c = omega arith
-
-pub loop-i-smaller : goal.loop-i-smaller
-loop-i-smaller c = omega arith
 
 pub loop-i-preserved : goal.loop-i-preserved
 loop-i-preserved c =

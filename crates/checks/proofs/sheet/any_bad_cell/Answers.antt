@@ -9,39 +9,6 @@ use Rattle.checks.proofs.sheet.any_bad_cell.Goals as goal
 pub loop-i-init : goal.loop-i-init
 loop-i-init c _ = rw sub-zero
 
-pub offset_bounds-ats-i : goal.offset_bounds-ats-i
-offset_bounds-ats-i c = omega arith
-
-pub bounds-ats-i : goal.bounds-ats-i
-bounds-ats-i c = omega arith
-
-pub offset_bounds-lens-i : goal.offset_bounds-lens-i
-offset_bounds-lens-i c = omega arith
-
-pub bounds-lens-i : goal.bounds-lens-i
-bounds-lens-i c = omega arith
-
-pub offset_bounds-rows-i : goal.offset_bounds-rows-i
-offset_bounds-rows-i c = omega arith
-
-pub bounds-rows-i : goal.bounds-rows-i
-bounds-rows-i c = omega arith
-
-pub offset_bounds-cols-i : goal.offset_bounds-cols-i
-offset_bounds-cols-i c = omega arith
-
-pub bounds-cols-i : goal.bounds-cols-i
-bounds-cols-i c = omega arith
-
-pub bounds-kinds-i : goal.bounds-kinds-i
-bounds-kinds-i c = omega arith
-
-pub overflow_add-i : goal.overflow_add-i
-overflow_add-i c = omega arith
-
-pub loop-i-smaller : goal.loop-i-smaller
-loop-i-smaller c = omega arith
-
 pub loop-i-preserved : goal.loop-i-preserved
 unfolding bad_cell_at
 loop-i-preserved c e =

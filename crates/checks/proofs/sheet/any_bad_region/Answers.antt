@@ -7,24 +7,6 @@ use Rattle.checks.proofs.sheet.any_bad_region.Goals as goal
 pub loop-i-init : goal.loop-i-init
 loop-i-init c _ = rw sub-zero
 
-pub offset_bounds-rows-i : goal.offset_bounds-rows-i
-offset_bounds-rows-i c = omega arith
-
-pub bounds-rows-i : goal.bounds-rows-i
-bounds-rows-i c = omega arith
-
-pub offset_bounds-cols-i : goal.offset_bounds-cols-i
-offset_bounds-cols-i c = omega arith
-
-pub bounds-cols-i : goal.bounds-cols-i
-bounds-cols-i c = omega arith
-
-pub overflow_add-i : goal.overflow_add-i
-overflow_add-i c = omega arith
-
-pub loop-i-smaller : goal.loop-i-smaller
-loop-i-smaller c = omega arith
-
 pub loop-i-preserved : goal.loop-i-preserved
 unfolding bad_region_at
 loop-i-preserved c e =

@@ -14,12 +14,6 @@ pub returns-then-bad_cell_at : goal.returns-then-bad_cell_at
 returns-then-bad_cell_at c =
     number_found _ _ _ c.loop-cell.invariant c.loop-cell-test.true (sym c.bad_cell_at.ensures ∙ c.if-bad_cell_at.true)
 
-pub overflow_add-cell : goal.overflow_add-cell
-overflow_add-cell c = omega arith
-
-pub loop-cell-smaller : goal.loop-cell-smaller
-loop-cell-smaller c = omega arith
-
 pub loop-cell-preserved : goal.loop-cell-preserved
 loop-cell-preserved c =
     number_passed _ _ _ c.loop-cell.invariant c.loop-cell-test.true (sym c.bad_cell_at.ensures ∙ c.if-bad_cell_at.false)

@@ -14,12 +14,6 @@ pub returns-then-bad_region_at : goal.returns-then-bad_region_at
 returns-then-bad_region_at c =
     number_found _ _ _ c.loop-region.invariant c.loop-region-test.true (sym c.bad_region_at.ensures ∙ c.if-bad_region_at.true)
 
-pub overflow_add-region : goal.overflow_add-region
-overflow_add-region c = omega arith
-
-pub loop-region-smaller : goal.loop-region-smaller
-loop-region-smaller c = omega arith
-
 pub loop-region-preserved : goal.loop-region-preserved
 loop-region-preserved c =
     number_passed _ _ _ c.loop-region.invariant c.loop-region-test.true (sym c.bad_region_at.ensures ∙ c.if-bad_region_at.false)

@@ -11,19 +11,10 @@ pub loop-later-init : goal.loop-later-init
 unfolding first_fall
 loop-later-init c = (omega arith, refl)
 
-pub overflow_sub-before : goal.overflow_sub-before
-overflow_sub-before c = omega arith
-
 pub returns-then-falls : goal.returns-then-falls
 unfolding falls_at
 returns-then-falls c =
     number_found _ _ _ c.loop-later.invariant.1 c.loop-later-test.true (sym c.falls.ensures ∙ c.if-falls.true)
-
-pub overflow_add-later : goal.overflow_add-later
-overflow_add-later c = omega arith
-
-pub loop-later-smaller : goal.loop-later-smaller
-loop-later-smaller c = omega arith
 
 pub loop-later-preserved : goal.loop-later-preserved
 unfolding falls_at

@@ -1,0 +1,33 @@
+use Prim.Native.Nat.{◌-◌}
+use mathlib.Core.Path.{refl}
+use native.Mathlib.Omega.{arith}
+use borrow.Author.Tests.{le-leb, lt-leb}
+use Rattle.call.proofs.Filling.{filled_from, filled_more}
+use Rattle.call.proofs.operands.copy.Goals as goal
+
+pub loop-i-init : goal.loop-i-init
+loop-i-init c = filled_from (λ k h. lt-leb _ k h)
+
+pub offset_bounds-values-i : goal.offset_bounds-values-i
+offset_bounds-values-i c = omega arith
+
+pub bounds-values-i : goal.bounds-values-i
+bounds-values-i c = omega arith
+
+pub offset_bounds-column-i : goal.offset_bounds-column-i
+offset_bounds-column-i c = omega arith
+
+pub bounds-column-i : goal.bounds-column-i
+bounds-column-i c = omega arith
+
+pub overflow_add-i : goal.overflow_add-i
+overflow_add-i c = omega arith
+
+pub loop-i-smaller : goal.loop-i-smaller
+loop-i-smaller c = omega arith
+
+pub loop-i-preserved : goal.loop-i-preserved
+loop-i-preserved c = filled_more c.loop-i.invariant (omega arith) refl
+
+pub returns : goal.returns
+returns c i a b = c.loop-i.invariant.filled i (omega (arith, c.loop-i-test.false)) (le-leb _ i a)

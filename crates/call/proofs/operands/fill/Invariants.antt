@@ -1,0 +1,13 @@
+-- `call::operands::fill` meets its contract. The loop's invariant: from the band's first index up to i the column has the number. The
+-- measure is what is left of the band. Assumes nothing.
+use Prim.Native.Nat.{ℕ, ◌-◌}
+use lib.Dec.{leb}
+use lib.Ieee.{nan}
+use Rattle.call.proofs.Filling.{FilledIn}
+use Rattle.call.proofs.operands.fill.Given as goal
+
+abbrev pub invariant-loop-i : goal.invariant-loop-i
+invariant-loop-i l = FilledIn nan (leb l.band.from) (λ (k : ℕ). l.x) l.initial.column l.column l.i
+
+abbrev pub decreases-loop-i : goal.decreases-loop-i
+decreases-loop-i l = l.band.to - l.i

@@ -1,0 +1,188 @@
+use Prim.Native.Nat.{ℕ, ◌-◌, ◌≤◌, ◌<◌}
+use mathlib.Core.Path.{◌≡◌, refl, sym, ap, ◌∙◌}
+use mathlib.Core.Logic.{inl, inr}
+use mathlib.Core.List.{List}
+use native.Mathlib.Omega.{arith}
+use lib.Ieee.{Float}
+use lib.ListN.{length, replicate, length-replicate}
+use lib.Seq.{length-take-le}
+use Rattle.model.specs.Ratio.{zero_f}
+use Rattle.order.specs.Order.{ordered_rules}
+use Rattle.hits.specs.Hits.{known, live_from}
+use Rattle.keys.proofs.Naming.{zeros_at}
+use Rattle.turns.specs.Turns.{left_by}
+use Rattle.turns.proofs.Running.{small_next, running_begun, running_next, running_ended, record_within}
+use Rattle.hits.proofs.Unstopped.{live_front, live_zeros}
+use Rattle.call.proofs.Rulewise.{fits_hits_lem}
+use Rattle.call.proofs.rules.run_rules.Goals as goal
+use Rattle.call.proofs.rules.run_rules.Goals.{After-turn-ran, In-loop-k, Start}
+
+pub loop-k-init : goal.loop-k-init
+loop-k-init c = (
+  λ kinds wraps nums ats lens tabled. running_begun _ _ _,
+  rw c.none_yet-ran.ensures (record { marks = omega arith; deferred = omega arith; simplified = omega arith }),
+  record {
+    regions = refl;
+    rules = refl;
+    kinds = refl;
+    colours = refl;
+    ppms = refl;
+    shapes = refl;
+    bar_rules = refl;
+    bar_ppms = refl;
+    scratch = refl;
+    flagged = length-replicate {A = ℕ} 1024 0;
+  },
+  omega arith,
+  length-replicate {A = Float} 1024 zero_f,
+  length-replicate {A = Float} 1024 zero_f,
+  length-replicate {A = ℕ} 1024 0,
+  length-replicate {A = ℕ} 1025 0,
+  sym (live_zeros (replicate 1024 0) (zeros_at 1024) _),
+)
+
+pub bounds-order-k : goal.bounds-order-k
+bounds-order-k c =
+    let few = c.requires.order_value.2 in
+    omega (arith, c.loop-k-test.true, few)
+
+pub overflow_cast-at : goal.overflow_cast-at
+overflow_cast-at c =
+    let pre = c.requires.order_value in
+    omega (arith, pre.2, record_within _ _ _ _ pre.0 pre.1 c.loop-k-test.true)
+
+pub offset_bounds-rules-at : goal.offset_bounds-rules-at
+offset_bounds-rules-at c =
+    let pre = c.requires.order_value in
+    omega (arith, pre.2, record_within _ _ _ _ pre.0 pre.1 c.loop-k-test.true)
+
+pub bounds-rules-at : goal.bounds-rules-at
+bounds-rules-at c =
+    let pre = c.requires.order_value in
+    omega (arith, pre.2, record_within _ _ _ _ pre.0 pre.1 c.loop-k-test.true)
+
+pub slice_bounds-turn-end : goal.slice_bounds-turn-end
+slice_bounds-turn-end c = sym c.loop-k.invariant.4
+
+pub slice_bounds-turn-end-in-loop-k : goal.slice_bounds-turn-end-in-loop-k
+slice_bounds-turn-end-in-loop-k c = sym c.loop-k.invariant.5
+
+pub slice_bounds-turn-end-in-loop-k-2 : goal.slice_bounds-turn-end-in-loop-k-2
+slice_bounds-turn-end-in-loop-k-2 c = sym c.loop-k.invariant.6
+
+pub slice_bounds-turn-end-in-loop-k-3 : goal.slice_bounds-turn-end-in-loop-k-3
+slice_bounds-turn-end-in-loop-k-3 c = sym c.loop-k.invariant.7
+
+pub slice_bounds-turn-end-in-loop-k-4 : goal.slice_bounds-turn-end-in-loop-k-4
+slice_bounds-turn-end-in-loop-k-4 c = sym c.loop-k.invariant.2.flagged
+
+pub turn-ran-requires : goal.turn-ran-requires
+turn-ran-requires c =
+    let below = c.loop-k-test.true in
+    let at = c.loop-k in
+    let inv = at.invariant in
+    let a = c.args in
+    let cells = c.requires.by_index in
+    let regions = c.requires.region_cols_value in record {
+      marks_bound = (
+        omega (arith, inv.1.marks, below, c.requires.order_value.2),
+        omega (arith, inv.1.deferred, below, c.requires.order_value.2),
+        omega (arith, inv.1.simplified, below, c.requires.order_value.2),
+      );
+      cols_value = c.requires.cols_value;
+      by_index = (cells.0, cells.1, omega (arith, cells.2, inv.2.scratch), c.all_numeric-numeric.ensures);
+      region_cols_value = (regions.0, inv.8);
+      hits_value = fits_hits_lem 0 (length a.region_rows.now) (known a.values.now at.firsts at.seconds at.founds)
+          a.region_cols.now at.flags (length at.hits)
+          (record {
+            ordered = omega arith;
+            few = regions.1;
+            within = omega (arith, regions.1, inv.7);
+            for_cols = regions.2;
+            for_flags = omega (arith, regions.1, inv.2.flagged);
+            for_values = regions.3;
+            for_firsts = omega (arith, regions.1, inv.4);
+            for_seconds = omega (arith, regions.1, inv.5);
+            for_founds = omega (arith, regions.1, inv.6);
+          });
+    }
+
+-- ---- behind the turn
+
+module _ (c : After-turn-ran) where
+  abbrev test : In-loop-k
+  test = c
+
+  abbrev entry : Start
+  entry = test
+
+  abbrev flags : List ℕ
+  flags = c.turn-ran.new.flags
+
+  flags_long : length flags ≡ 1024
+  flags_long = c.turn-ran.auto.flags ∙ test.loop-k.invariant.2.flagged
+
+  within : length entry.args.region_rows.now ≤ length flags
+  within = omega (arith, flags_long, entry.pre.1.1.1.1)
+
+pub slice_bounds-flags-end : goal.slice_bounds-flags-end
+slice_bounds-flags-end c = within (goal.at.slice_bounds-flags-end c).After-turn-ran
+
+pub slice_bounds-live-end : goal.slice_bounds-live-end
+slice_bounds-live-end c = sym (length-take-le _ _ (within (goal.at.slice_bounds-live-end c).After-turn-ran))
+
+pub overflow_add-k : goal.overflow_add-k
+overflow_add-k c =
+    let at = (goal.at.overflow_add-k c).After-turn-ran in
+    omega (arith, (test at).loop-test.taken, (entry at).pre.0.2)
+
+pub loop-k-smaller : goal.loop-k-smaller
+loop-k-smaller c =
+    let at = (goal.at.loop-k-smaller c).After-turn-ran in
+    omega (arith, (test at).loop-test.taken)
+
+pub loop-k-preserved : goal.loop-k-preserved
+loop-k-preserved c =
+    let done = (goal.at.loop-k-preserved c).After-turn-ran in
+    let below = (test done).loop-test.taken in
+    let at = (test done).before.loop in
+    let pre = (entry done).pre.0 in
+    let first : at.k < length (ordered_rules (entry done).args.t1) = omega (arith, below, pre.1) in
+    let few = done.turn.ensures.1.1 in
+    let k = done.turn.kept.1.1.1.1.1.1.1.1.1.1.1.1.1.1.1.1 in
+    let v = at.inv.2 in
+    let regions = length (entry done).args.region-rows.now in (
+      λ kinds wraps nums ats lens tabled.
+          running_next _ _ _ _ _ at.k _ _ _ pre.0 refl first (at.inv.0 kinds wraps nums ats lens tabled)
+          (done.turn.ensures.0 kinds wraps nums ats lens (tabled _ _ (record_within _ _ _ _ pre.0 pre.1 below))),
+      small_next at.inv.1 few.0 few.1 few.2,
+      record {
+        regions = k.1.1.1.1.1.0 ∙ v.regions;
+        rules = k.1.1.1.1.1.1.0 ∙ v.rules;
+        kinds = k.1.1.1.1.1.1.1.0 ∙ v.kinds;
+        colours = k.1.1.1.1.1.1.1.1.0 ∙ v.colours;
+        ppms = k.1.1.1.1.1.1.1.1.1.0 ∙ v.ppms;
+        shapes = k.1.1.1.1.1.1.1.1.1.1.0 ∙ v.shapes;
+        bar_rules = k.1.1.1.1.1.1.1.1.1.1.1.0 ∙ v.bar_rules;
+        bar_ppms = k.1.1.1.1.1.1.1.1.1.1.1.1.0 ∙ v.bar_ppms;
+        scratch = k.1.1.1.1.1.1.1.1.1.1.1.1.1.0 ∙ v.scratch;
+        flagged = flags_long done;
+      },
+      omega (arith, below),
+      k.0 ∙ at.inv.4,
+      k.1.0 ∙ at.inv.5,
+      k.1.1.0 ∙ at.inv.6,
+      k.1.1.1.0 ∙ at.inv.7,
+      elim c.if-rule.branch [
+        | inl (stops, share, counted, e) ↦ e ∙ counted.ensures ∙ live_front (flags done) _ (within done)
+        | inr (runs, e) ↦ e ∙ at.inv.8 ∙ ap (λ (l : List ℕ). live_from l 0 regions) (sym (done.turn.ensures.1.0 runs.left))
+      ],
+    )
+
+pub returns : goal.returns
+returns c =
+    let at = c.loop-k in
+    let end : at.k ≡ length (ordered_rules c.args.t1) = omega (arith, at.invariant.3, c.loop-k-test.false, c.requires.order_value.1) in
+    λ kinds wraps nums ats lens tabled.
+    rw c.none_yet-ran.ensures at
+    (ap left_by (running_ended _ _ _ _ at.k end (at.invariant.0 kinds wraps nums ats lens tabled)))

@@ -1,0 +1,201 @@
+-- `call::rules::test_regions` meets its contract. Where all regions are stopped none is asked and none is painted. Else the band has room
+-- at the front of the table of hits, by which the hits are few and each is a region, whatever is known of them. By the tables of the sheet
+-- what is found in the band is what the test says of all regions. Assumes nothing.
+use Prim.Native.Nat.{ℕ, ◌+◌, ◌-◌, ◌≤◌, ◌<◌}
+use native.Mathlib.Omega.{arith}
+use mathlib.Core.Path.{◌≡◌, refl, sym, ap, ◌∙◌}
+use mathlib.Core.Bool.{true}
+use mathlib.Core.List.{List, ◌++◌}
+use mir.Syntax.{w64}
+use mir.Val.{Fits}
+use lib.ListN.{length, take, drop}
+use lib.Seq.{length-take-le}
+use Rattle.cells.specs.Columns.{columns}
+use Rattle.model.specs.Sheet.{regions_from}
+use Rattle.hits.specs.declared.Found.{Found}
+use Rattle.hits.specs.Hits.{Known, known, fits_hits, live_from}
+use Rattle.hits.proofs.Finding.{Fitting, fitting}
+use Rattle.turns.specs.Turns.{sheet_in}
+use Rattle.turns.specs.Bands.{BandOf}
+use Rattle.call.proofs.Rulewise.{fits_hits_lem}
+use Rattle.call.proofs.Deciding.{known_by, found_within, found_few, found_front, found_below, found_decides, stopped_decides}
+use Rattle.call.proofs.rules.test_regions.Goals as goal
+use Rattle.call.proofs.rules.test_regions.Goals.{After-find_operands, After-find_within-found, Start}
+
+-- ---- as it comes
+
+module _ (c : Start) where
+  fit : let a = c.args in
+      Fitting 0 (length a.region_rows.now) (known a.values.now a.firsts.now a.seconds.now a.founds.now)
+      a.region_cols.now a.flags.now (length a.hits.now)
+  fit = fitting _ _ _ _ _ _ c.requires.hits_value
+
+  band : let a = c.args in BandOf a.rule.range a.region_rows.now a.regions.from a.regions.to
+  band = c.requires.region_cols_value.1
+
+  -- one more than the regions of the band
+  abbrev room : ℕ
+  room = c.args.regions.to - c.args.regions.from + 1
+
+  roomy : room ≤ length c.args.hits.now
+  roomy = omega (arith, band.ordered, band.within, fit.within)
+
+  small : Fits w64 room
+  small = omega (arith, band.within, fit.few)
+
+  cut : length (take room c.args.hits.now) ≡ room
+  cut = length-take-le room c.args.hits.now roomy
+
+-- ---- what is known
+
+module _ (meaning : After-find_operands) where
+  abbrev begun : Start
+  begun = looking meaning
+
+  abbrev table : Known
+  table =
+      let a = begun.args in
+      known a.values.now meaning.find-operands.last.1.1.1.1.1.1.1.1.1.1.1.0
+      meaning.find-operands.last.1.1.1.1.1.1.1.1.1.1.1.1.0 a.founds.now
+
+  abbrev large : ℕ
+  large = length (take (room begun) begun.args.hits.now)
+
+  fits : let a = begun.args in
+      fits_hits a.regions.from a.regions.to table a.region_cols.now a.flags.now large ≡ true
+  fits =
+      let a = begun.args in
+      let given = fit begun in
+      let most = (band begun).within in
+      let long = meaning.find-operands.kept.1.1.1.1.1.1.1.1.1.1.1 in
+      fits_hits_lem a.regions.from a.regions.to table a.region_cols.now a.flags.now large
+      (record {
+        ordered = (band begun).ordered;
+        few = omega (arith, most, given.few);
+        within = omega (arith, cut begun);
+        for_cols = omega (arith, most, given.for_cols);
+        for_flags = omega (arith, most, given.for_flags);
+        for_values = omega (arith, most, given.for_values);
+        for_firsts = omega (arith, most, given.for_firsts, long.0);
+        for_seconds = omega (arith, most, given.for_seconds, long.1.0);
+        for_founds = omega (arith, most, given.for_founds);
+      })
+
+-- ---- what is found
+
+module _ (c : After-find_within-found) where
+  abbrev meaning : After-find_operands
+  meaning = c
+
+  abbrev start : Start
+  start = looking meaning
+
+  abbrev found : Found
+  found = c.find_within-found.result
+
+  -- the table of hits
+  abbrev page : List ℕ
+  page = c.find_within-found.new.hits
+
+  abbrev rest : List ℕ
+  rest = drop (room start) start.args.hits.now
+
+  within : found.unresolved ≡ true → found.at < length start.args.flags.now
+  within some =
+      let a = start.args in
+      omega (
+        arith,
+        (band start).within,
+        (fit start).for_flags,
+        found_within (table meaning) a.rule.range a.test a.rule.imported a.region_cols.now a.flags.now
+            a.regions.from a.regions.to found true refl (c.find_within-found.ensures.found a.rule.imported) (band start).ordered
+            some,
+      )
+
+-- ---- the steps
+
+pub returns-then-alive-eq0 : goal.returns-then-alive-eq0
+returns-then-alive-eq0 c =
+    let begun = (goal.at.returns-then-alive-eq0 c).Start in
+    let a = begun.args in
+    let rows = a.region_rows.now in
+    let cols = a.region_cols.now in
+    let flags = a.flags.now in
+    let found = c.nothing_found.result in
+    let no-hits : c.charge_found.result.count ≡ 0 = omega (arith, c.charge_found.ensures.few.0, ap (λ (f : Found). f.count) c.nothing_found.ensures) in
+    let none : live_from flags 0 (length rows) ≡ 0 = sym begun.pre.1.0.2 ∙ c.if-alive-eq0.true in record {
+      decided = λ kinds wraps nums ats lens numbered valued counted.
+          let cells = columns a.rows.now a.cols.now kinds wraps nums ats lens in
+          let sheet = sheet_in cells rows cols a.pool.now a.sheet in
+          stopped_decides sheet a.rule a.test rows cols flags none found c.nothing_found.ensures a.values.now a.hits.now a.limit a.charged
+          c.charge_found.result (λ os. c.charge_found.ensures.decided os a.rule.imported a.values.now a.hits.now);
+      few = (omega (arith, no-hits), c.charge_found.ensures.few.1, c.charge_found.ensures.few.2);
+      hits = λ k h. omega (arith, h, no-hits);
+    }
+
+pub find_operands-requires : goal.find_operands-requires
+find_operands-requires c =
+    let begun = (goal.at.find_operands-requires c).Start in record {
+      cols_value = begun.pre.0;
+      band_of = (band begun, (fit begun).for_cols, (fit begun).for_values, (fit begun).for_firsts, (fit begun).for_seconds);
+    }
+
+pub overflow_sub-regions : goal.overflow_sub-regions
+overflow_sub-regions c = (band (goal.at.overflow_sub-regions c).Start).ordered
+
+pub overflow_add-regions : goal.overflow_add-regions
+overflow_add-regions c = small (goal.at.overflow_add-regions c).Start
+
+pub slice_bounds-find_within-end : goal.slice_bounds-find_within-end
+slice_bounds-find_within-end c = roomy (goal.at.slice_bounds-find_within-end c).Start
+
+pub slice_bounds-find_within-end-2 : goal.slice_bounds-find_within-end-2
+slice_bounds-find_within-end-2 c = sym (cut (goal.at.slice_bounds-find_within-end-2 c).Start)
+
+pub find_within-found-requires : goal.find_within-found-requires
+find_within-found-requires c =
+    let begun = (goal.at.find_within-found-requires c).Start in record {
+      cols_value = (begun.pre.1.0.0, (fit begun).for_cols, (fit begun).few, (band begun).within);
+      hits_value = fits c;
+    }
+
+pub asked_of-requires : goal.asked_of-requires
+asked_of-requires c = within c
+
+pub returns : goal.returns
+returns c =
+    let begun = start c in
+    let a = begun.args in
+    let from = a.regions.from in
+    let to = a.regions.to in
+    let range = a.rule.range in
+    let imported = a.rule.imported in
+    let rows = a.region_rows.now in
+    let cols = a.region_cols.now in
+    let flags = a.flags.now in
+    let values = a.values.now in
+    let hits = page c ++ rest c in
+    let is = c.find_within-found.ensures.found imported in
+    let held = c.find_within-found.ensures.hits imported in
+    let most : to - from ≤ large (meaning c) = omega (arith, cut begun) in
+    let few = c.charge_found-2.ensures.few in
+    let count = found_few (table (meaning c)) range a.test imported cols flags from to (found c) true refl is in record {
+      decided = λ kinds wraps nums ats lens numbered valued counted.
+          let cells = columns a.rows.now a.cols.now kinds wraps nums ats lens in
+          let sheet = sheet_in cells rows cols a.pool.now a.sheet in
+          let meant = (meaning c).find-operands.ensures in
+          let knows = known_by cells a.pool.now a.sheet (regions_from rows cols 0 (length rows)) range a.test rows cols (table (meaning c))
+          valued (meant.0 kinds wraps nums ats lens values a.founds.now numbered valued)
+          (meant.1 kinds wraps nums ats lens values a.founds.now numbered valued) counted in
+          found_decides sheet a.rule a.test rows cols flags (table (meaning c)) knows (band begun) (found c) true refl is
+          a.alive c.asked_of.result begun.pre.1.0.2 c.asked_of.ensures hits
+          (found_front (table (meaning c)) range a.test imported cols flags from to (found c) true refl is (large (meaning c)) most (page c)
+          (rest c) held) a.limit a.charged c.charge_found-2.result (λ os. c.charge_found-2.ensures.decided os imported values hits);
+      few = (omega (arith, few.0, count, (band begun).within), few.1, few.2);
+      hits = λ k h. omega (
+        arith,
+        (band begun).within,
+        found_below (table (meaning c)) range a.test imported cols flags from to (found c) true refl is (large (meaning c)) most (page c)
+            (rest c) held (band begun).ordered k (omega (arith, h, few.0)),
+      );
+    }

@@ -1,0 +1,10 @@
+-- `replays::list::number` is safe and ends. Nothing has to hold from turn to turn, since `longer` tells a number that does not fit.
+-- The measure is what is left of the text. Assumes nothing.
+use Rattle.std.proofs.Common.{◌-◌, length}
+use Rattle.replays.proofs.list.number.Given as goal
+
+abbrev pub invariant-loop-i : goal.invariant-loop-i
+invariant-loop-i l = Unit {0}
+
+abbrev pub decreases-loop-i : goal.decreases-loop-i
+decreases-loop-i l = length l.s - l.i

@@ -1,0 +1,10 @@
+-- `replays::saving::second_line` is safe and ends. Nothing has to hold from turn to turn. The measure is what is left of the report.
+-- Assumes nothing.
+use Rattle.std.proofs.Common.{◌-◌, length}
+use Rattle.replays.proofs.saving.second_line.Given as goal
+
+abbrev pub invariant-loop-i : goal.invariant-loop-i
+invariant-loop-i l = Unit {0}
+
+abbrev pub decreases-loop-i : goal.decreases-loop-i
+decreases-loop-i l = length l.report - l.i
