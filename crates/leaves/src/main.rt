@@ -13,8 +13,9 @@ ghost use Rattle.std.specs.Prelude.{◌≡◌, ◌≤◌, length};
 
 use crate::answers::{is_malformed, put_answer};
 use crate::lines::answer_line;
-use libc::{STDERR_FILENO, STDIN_FILENO, STDOUT_FILENO};
 use put::put_byte;
+use std::io;
+use std::io::{Read, Write};
 
 // Lines on the way: how many bytes of the text wait for the rest of their line, where the next line begins, where the next answer goes,
 // how many lines are answered, and whether to go on.
@@ -41,7 +42,7 @@ fn answer_next(
     let answer = answered.answer;
     st.put = put_answer(out, st.put, answer, lent);
     st.at = answered.next;
-    st.lines = std::num::wrapping_add_u64(st.lines, 1);
+    st.lines = st.lines.wrapping_add(1);
     st.going = !is_malformed(answer);
     st
 }
@@ -70,28 +71,23 @@ fn answer_lines(
 
 // ---- messages
 
-// In place of the answer, since a program has no exit status.
-fn tell_malformed(lines: u64) {
-    io::write_all(STDOUT_FILENO, b"line ");
-    io::print_decimal(STDOUT_FILENO, lines);
-    io::write_all(STDOUT_FILENO, b" is none of the leaves' lines\n");
+// In place of the answer.
+fn tell_malformed(rt: &impl Print, lines: u64) -> io::Result<()> {
+    println!(rt; "line {lines} is none of the leaves' lines")
 }
 
-fn tell_long(lines: u64) {
-    io::write_all(STDOUT_FILENO, b"line ");
-    io::print_decimal(STDOUT_FILENO, std::num::wrapping_add_u64(lines, 1));
-    io::write_all(STDOUT_FILENO, b" is longer than 65,535 bytes\n");
+fn tell_long(rt: &impl Print, lines: u64) -> io::Result<()> {
+    let line = lines.wrapping_add(1);
+    println!(rt; "line {line} is longer than 65,535 bytes")
 }
 
-fn tell_unread() {
-    io::write_all(STDERR_FILENO, b"leaves: standard input cannot be read\n");
+// The program ends with the error itself: so nothing more is told where this cannot be.
+fn tell_unread(rt: &impl Eprint) {
+    let _ = eprintln!(rt; "leaves: standard input cannot be read");
 }
 
-fn tell_unwritten() {
-    io::write_all(
-        STDERR_FILENO,
-        b"leaves: standard output cannot be written\n",
-    );
+fn tell_unwritten(rt: &impl Eprint) {
+    let _ = eprintln!(rt; "leaves: standard output cannot be written");
 }
 
 // ---- the text
@@ -101,33 +97,34 @@ fn stopped(mut st: State) -> State {
     st
 }
 
-fn write_out(out: &[u8], put: usize) -> bool {
+fn write_out(rt: &impl Print, out: &[u8], put: usize) -> io::Result<()> {
     if put <= out.len() {
-        return io::write_all(STDOUT_FILENO, &out[0..put]);
+        return io::writer(rt).write_all(&out[0..put]);
     }
-    false
+    Err(io::Error::from(io::ErrorKind::InvalidInput))
 }
 
 // The answers to whole lines. No answer is longer than twice its line, so they fit.
 fn answer_part(
+    rt: &(impl Print + Eprint),
     s: &[u8],
     mut st: State,
     out: &mut [u8],
     pool: &mut [u8],
     lent: &mut [u8],
     values: &mut [f64],
-) -> State {
+) -> io::Result<State> {
     st.at = 0;
     st.put = 0;
     let st = answer_lines(s, st, out, pool, lent, values);
-    if !write_out(out, st.put) {
-        tell_unwritten();
-        return stopped(st);
+    if let Err(e) = write_out(rt, out, st.put) {
+        tell_unwritten(rt);
+        return Err(e);
     }
     if !st.going {
-        tell_malformed(st.lines);
+        tell_malformed(rt, st.lines)?;
     }
-    st
+    Ok(st)
 }
 
 // The place after the last line end, 0 where there is none.
@@ -161,6 +158,7 @@ fn bytes_left(filled: usize, at: usize) -> usize {
 
 // Answers the whole lines among the first `filled` bytes, and keeps the rest.
 fn answer_filled(
+    rt: &(impl Print + Eprint),
     text: &mut [u8],
     filled: usize,
     st: State,
@@ -168,32 +166,34 @@ fn answer_filled(
     pool: &mut [u8],
     lent: &mut [u8],
     values: &mut [f64],
-) -> State {
+) -> io::Result<State> {
     if text.len() < filled {
-        tell_long(st.lines);
-        return stopped(st);
+        tell_long(rt, st.lines)?;
+        return Ok(stopped(st));
     }
     let end = last_end(&text[0..filled]);
-    let mut st = answer_part(&text[0..end], st, out, pool, lent, values);
+    let mut st = answer_part(rt, &text[0..end], st, out, pool, lent, values)?;
     move_down(&mut text[0..filled], st.at);
     st.held = bytes_left(filled, st.at);
-    st
+    Ok(st)
 }
 
 // The last line may lack its end.
 fn answer_last(
+    rt: &(impl Print + Eprint),
     text: &mut [u8],
     st: State,
     out: &mut [u8],
     pool: &mut [u8],
     lent: &mut [u8],
     values: &mut [f64],
-) -> State {
+) -> io::Result<State> {
     if st.held == 0 {
-        return stopped(st);
+        return Ok(stopped(st));
     }
     let filled = put_byte(text, st.held, b'\n');
-    stopped(answer_filled(text, filled, st, out, pool, lent, values))
+    let st = answer_filled(rt, text, filled, st, out, pool, lent, values)?;
+    Ok(stopped(st))
 }
 
 // What came behind the bytes that wait.
@@ -201,55 +201,54 @@ fn answer_last(
 enum More {
     Filled(usize),
     Ended,
-    Failed,
     Full,
 }
 
-fn read_more(text: &mut [u8], held: usize) -> More {
+fn read_more<R: Read>(reader: &mut R, text: &mut [u8], held: usize) -> io::Result<More> {
     if text.len() <= held {
-        return More::Full;
+        return Ok(More::Full);
     }
-    let got = libc::read(STDIN_FILENO, &mut text[held..]);
-    if got < 0 {
-        return More::Failed;
-    }
-    let n = io::count(got, &text[held..]);
+    let n = reader.read(&mut text[held..])?;
     if n == 0 {
-        return More::Ended;
+        return Ok(More::Ended);
     }
-    More::Filled(held + n)
+    Ok(More::Filled(held + n))
 }
 
-fn answer_more(
+fn answer_more<R: Read>(
+    rt: &(impl Print + Eprint),
+    reader: &mut R,
     text: &mut [u8],
     st: State,
     out: &mut [u8],
     pool: &mut [u8],
     lent: &mut [u8],
     values: &mut [f64],
-) -> State {
-    match read_more(text, st.held) {
-        More::Filled(filled) => answer_filled(text, filled, st, out, pool, lent, values),
-        More::Ended => answer_last(text, st, out, pool, lent, values),
-        More::Failed => {
-            tell_unread();
-            stopped(st)
+) -> io::Result<State> {
+    match read_more(reader, text, st.held) {
+        Ok(More::Filled(filled)) => answer_filled(rt, text, filled, st, out, pool, lent, values),
+        Ok(More::Ended) => answer_last(rt, text, st, out, pool, lent, values),
+        Ok(More::Full) => {
+            tell_long(rt, st.lines)?;
+            Ok(stopped(st))
         }
-        More::Full => {
-            tell_long(st.lines);
-            stopped(st)
+        Err(e) => {
+            tell_unread(rt);
+            Err(e)
         }
     }
 }
 
 // A proved loop has to end, so it counts its turns down, from a number that no run uses up.
-fn answer_all(
+fn answer_all<R: Read>(
+    rt: &(impl Print + Eprint),
+    reader: &mut R,
     text: &mut [u8],
     out: &mut [u8],
     pool: &mut [u8],
     lent: &mut [u8],
     values: &mut [f64],
-) {
+) -> io::Result<()> {
     let mut st = State {
         held: 0,
         at: 0,
@@ -260,8 +259,9 @@ fn answer_all(
     let mut turns = u64::MAX;
     while turns > 0 && st.going {
         turns -= 1;
-        st = answer_more(text, st, out, pool, lent, values);
+        st = answer_more(rt, reader, text, st, out, pool, lent, values)?;
     }
+    Ok(())
 }
 
 // As many values as a line can hold.
@@ -278,11 +278,19 @@ fn no_answers() -> [u8; 131072]
     [0; 131072]
 }
 
-fn main() {
-    let mut text = io::large_buffer();
+fn main(rt: HostRuntime) -> io::Result<()> {
+    let mut text = [0u8; 65536];
     let mut out = no_answers();
-    let mut pool = io::large_buffer();
-    let mut lent = io::large_buffer();
+    let mut pool = [0u8; 65536];
+    let mut lent = [0u8; 65536];
     let mut values = no_values();
-    answer_all(&mut text, &mut out, &mut pool, &mut lent, &mut values);
+    answer_all(
+        &rt,
+        &mut rt.stdin(),
+        &mut text,
+        &mut out,
+        &mut pool,
+        &mut lent,
+        &mut values,
+    )
 }

@@ -1,11 +1,9 @@
 -- Jobs that are saved as one text are alike, however long the text is, and whatever stands behind it. Assumes nothing.
 use Prim.Native.Nat.{ℕ}
-use mathlib.Core.Path.{◌≡◌, refl, sym, ap₂, ◌∙◌}
+use mathlib.Core.Path.{◌≡◌, refl, ap₂}
 use mathlib.Core.List.{List, [], ◌++◌}
 use Rattle.model.specs.Job.{Job}
 use Rattle.laws.specs.Demands.{WellFormed}
-use Rattle.grammar.specs.Gram.Got.{got}
-use Rattle.jobtext.specs.Written.{JobText}
 use Rattle.jobtext.specs.Text.{job}
 use Rattle.jobtext.specs.Said.{job_said}
 use Rattle.jobtext.proofs.Text.{job_exact}

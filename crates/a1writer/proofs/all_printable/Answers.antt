@@ -1,4 +1,3 @@
-use native.Mathlib.Omega.{arith}
 use mathlib.Core.Path.{sym, ◌∙◌}
 use Rattle.readings.proofs.Bytes.{every_begun, every_passed, every_failed, every_ended}
 use Rattle.a1writer.proofs.all_printable.Goals as goal

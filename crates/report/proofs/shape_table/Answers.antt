@@ -3,7 +3,7 @@ use native.Mathlib.Omega.{arith}
 use borrow.Author.Rules.{rules}
 use lib.ListN.{length, length-set}
 use Rattle.reporttext.specs.Report.{shaped_at}
-use Rattle.report.proofs.Shaped.{no_flags, flag_more, flags_ended, length_mapped}
+use Rattle.report.proofs.Shaped.{no_flags, flag_more, flags_ended}
 use Rattle.report.proofs.shape_table.Goals as goal
 
 pub loop-i-init : goal.loop-i-init

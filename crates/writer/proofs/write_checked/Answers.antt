@@ -42,5 +42,5 @@ returns c =
     let text = text_of args.limit job in
     let needed = laid_counted c.put_job-needed.ensures (omega (arith, text_short args.limit job c.requires)) in
     let small : c.put_job-needed.result ≤ max_text = c.if-needed-gt-MAX_TEXT.false in
-    wrote_whole args.start text args.text.now (omega arith
+    wrote_whole args.start text args.text.now (omega arith)
     c.put_job-end.ensures (omega (arith, needed, c.if-text-needed.false)) (omega (arith, needed, small)) c.clear_from-2.ensures

@@ -8,11 +8,13 @@ returns-then-end-from c =
     let a = c.args in
     let first = c.first_from-from in
     let last = c.first_from-end in
-    band_empty a.range a.rows.now first.result last.result first.ensures last.ensures c.if-end-from.true
+    band_empty a.range a.rows.now first.result last.result (first.ensures.before, (first.ensures.after, first.ensures.within))
+    (last.ensures.before, (last.ensures.after, last.ensures.within)) c.if-end-from.true
 
 pub returns : goal.returns
 returns c =
     let a = c.args in
     let first = c.first_from-from in
     let last = c.first_from-end in
-    band_made a.range a.rows.now first.result last.result first.ensures last.ensures c.if-end-from.false
+    band_made a.range a.rows.now first.result last.result (first.ensures.before, (first.ensures.after, first.ensures.within))
+    (last.ensures.before, (last.ensures.after, last.ensures.within)) c.if-end-from.false

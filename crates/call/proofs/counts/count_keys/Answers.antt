@@ -15,10 +15,8 @@ count_codes-requires c =
 
 pub returns : goal.returns
 returns c =
-    let start =
-    c in
-    let a = start.args in record {
+    let a = c.args in record {
       keyless = λ band. c.count_codes.ensures band 0 (omega arith);
       founds = λ band i h l inside. c.look_up.ensures i h l inside
-          ∙ c.count_codes.ensures band _ (named_below a.codes.now (omega arith) start.requires.1.1 (get_or a.places.now i 0));
+          ∙ c.count_codes.ensures band _ (named_below a.codes.now (omega arith) c.requires.by_index (get_or a.places.now i 0));
     }

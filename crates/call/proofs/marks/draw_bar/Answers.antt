@@ -16,7 +16,7 @@ returns-then-region-ppms c =
     let none = sym c.at_u32.ensures ∙ c.if-at_u32-ne0.false in
     let ppm = c.normalized_ppm-ppm in
     rw (← ppm.ensures) (bar_new a.rule ppm.result a.region a.rules.now a.ppms.now none
-    ((elim c.if-region-rules.branch [ then-region-rules w ↦ w.1 | else-region-rules w ↦ w.1 ∙ sym (set_out _ _ _ w.if-region-rules.false) ])) refl)
+    (elim c.if-region-rules.branch [ then-region-rules w ↦ w.rules-is | else-region-rules w ↦ w.rules-is ∙ sym (set_out _ _ _ w.if-region-rules.false) ]) refl)
 
 pub returns-else-region-ppms : goal.returns-else-region-ppms
 returns-else-region-ppms c =
@@ -24,4 +24,4 @@ returns-else-region-ppms c =
     let none = sym c.at_u32.ensures ∙ c.if-at_u32-ne0.false in
     let ppm = c.normalized_ppm-ppm in
     rw (← ppm.ensures) (bar_new a.rule ppm.result a.region a.rules.now a.ppms.now none
-    ((elim c.if-region-rules.branch [ then-region-rules w ↦ w.1 | else-region-rules w ↦ w.1 ∙ sym (set_out _ _ _ w.if-region-rules.false) ])) (sym (set_out _ _ _ c.if-region-ppms.false)))
+    (elim c.if-region-rules.branch [ then-region-rules w ↦ w.rules-is | else-region-rules w ↦ w.rules-is ∙ sym (set_out _ _ _ w.if-region-rules.false) ]) (sym (set_out _ _ _ c.if-region-ppms.false)))

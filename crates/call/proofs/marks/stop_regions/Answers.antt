@@ -18,7 +18,7 @@ overflow_cast-region c = omega (arith, c.type_inv.hits c.loop-k.k)
 pub loop-k-preserved : goal.loop-k-preserved
 loop-k-preserved c =
     flagged_turn c.loop-k.invariant c.loop-k-test.true
-    ((elim c.if-region-flags.branch [ then-region-flags w ↦ w.1 | else-region-flags w ↦ w.1 ∙ sym (set_out _ _ _ w.if-region-flags.false) ]))
+    (elim c.if-region-flags.branch [ then-region-flags w ↦ w.flags-is | else-region-flags w ↦ w.flags-is ∙ sym (set_out _ _ _ w.if-region-flags.false) ])
 
 pub returns : goal.returns
 returns c =

@@ -12,7 +12,7 @@ use Rattle.call.proofs.Filling.{filled_from, filled_passed, filled_more}
 use Rattle.call.proofs.Meaning.{read_as}
 use Rattle.call.proofs.Aiming.{number_aimed, number_standing}
 use Rattle.call.proofs.operands.find_referenced.Goals as goal
-use Rattle.call.proofs.operands.find_referenced.Goals.{In-loop-i, Start, Then-stands_at}
+use Rattle.call.proofs.operands.find_referenced.Goals.{In-loop-i, Then-stands_at}
 
 pub loop-i-init : goal.loop-i-init
 loop-i-init c =
@@ -37,11 +37,10 @@ loop-i-smaller-then-not-inside c = omega arith
 pub loop-i-preserved-then-not-inside : goal.loop-i-preserved-then-not-inside
 unfolding column_in
 loop-i-preserved-then-not-inside c =
-    let start = (goal.at.loop-i-preserved-then-not-inside c).Start in
     let v = c.loop-i.invariant in (
       omega (arith, v.0),
       filled_passed v.1
-          (within_band start.pre.1.0 start.args.region_cols.now _ v.0 c.loop-i-test.true ∙ c.if-not-inside.true),
+          (within_band c.requires.band_of.0 c.args.region_cols.now _ v.0 c.loop-i-test.true ∙ c.if-not-inside.true),
     )
 
 pub offset_bounds-region_rows-i : goal.offset_bounds-region_rows-i
@@ -52,8 +51,7 @@ bounds-region_rows-i c = omega arith
 
 pub aimed-at_row-requires : goal.aimed-at_row-requires
 aimed-at_row-requires c =
-    let start = (goal.at.aimed-at_row-requires c).Start in
-    (start.pre.1.0.inside _ c.loop-i.invariant.0 c.loop-i-test.true).0
+    (c.requires.band_of.0.inside _ c.loop-i.invariant.0 c.loop-i-test.true).0
 
 pub overflow_cast-col : goal.overflow_cast-col
 overflow_cast-col c =
@@ -64,12 +62,10 @@ aimed-at_col-requires c =
     leb-true _ _ ((and_true _ _).0 (c.if-not-inside.false)).0
 
 in_cells : (c : Then-stands_at)
-    → let turn = (goal.at.Then-stands_at c).In-loop-i in
-    (turn.loop-i.next < 1024) × (turn.loop-i.next < length (start_of turn).args.floats.now)
+    → (c.loop-i.next < 1024) × (c.loop-i.next < length c.args.floats.now)
 in_cells c =
-    let start = start_of (goal.at.Then-stands_at c).In-loop-i in
-    let told = (stands start.args.rows.now start.args.cols.now _ _).0 (sym c.stands_at.ensures ∙ c.if-stands_at.true) in
-    (omega (arith, told.0, start.pre.0.1), omega (arith, told.0, start.pre.0.2))
+    let told = (stands c.args.rows.now c.args.cols.now _ _).0 (sym c.stands_at.ensures ∙ c.if-stands_at.true) in
+    (omega (arith, told.0, c.requires.cols_value.1), omega (arith, told.0, c.requires.cols_value.2))
 
 pub offset_bounds-floats-next : goal.offset_bounds-floats-next
 offset_bounds-floats-next c = omega (arith, (in_cells c).0)
@@ -90,22 +86,21 @@ pub overflow_add-i-then-stands_at : goal.overflow_add-i-then-stands_at
 overflow_add-i-then-stands_at c = omega (arith, (in_column (goal.at.overflow_add-i-then-stands_at c).In-loop-i).1)
 
 pub loop-i-smaller-then-stands_at : goal.loop-i-smaller-then-stands_at
-loop-i-smaller-then-stands_at c = omega (arith, c.if1.taken)
+loop-i-smaller-then-stands_at c = omega (arith, c.loop-i-test.true)
 
 pub loop-i-preserved-then-stands_at : goal.loop-i-preserved-then-stands_at
 loop-i-preserved-then-stands_at c =
     let turn = (goal.at.loop-i-preserved-then-stands_at c).In-loop-i in
-    let start = start_of turn in
     let v = turn.loop-i.invariant in (
       omega (arith, v.0),
       filled_more v.1 (in_column turn).0
           (rw (← c.aimed-at_row.ensures, ← c.aimed-at_col.ensures)
-          (number_standing _ _ _ start.pre.0.0 _ _ (sym c.stands_at.ensures ∙ c.if-stands_at.true))),
+          (number_standing _ _ _ c.requires.cols_value.0 _ _ (sym c.stands_at.ensures ∙ c.if-stands_at.true))),
     )
 
 pub entry_sought-entry-requires : goal.entry_sought-entry-requires
 entry_sought-entry-requires c =
-    let cells = (start_of (goal.at.entry_sought-entry-requires c).In-loop-i).pre.0 in
+    let cells = c.requires.cols_value in
     (cells.0, cells.1, cells.3)
 
 pub offset_bounds-column-i-in-loop-i : goal.offset_bounds-column-i-in-loop-i
@@ -118,7 +113,7 @@ pub overflow_add-i-in-loop-i : goal.overflow_add-i-in-loop-i
 overflow_add-i-in-loop-i c = omega (arith, (in_column (goal.at.overflow_add-i-in-loop-i c).In-loop-i).1)
 
 pub loop-i-smaller : goal.loop-i-smaller
-loop-i-smaller c = omega (arith, c.if1.taken)
+loop-i-smaller c = omega (arith, c.loop-i-test.true)
 
 pub loop-i-preserved : goal.loop-i-preserved
 loop-i-preserved c =

@@ -35,7 +35,7 @@ loop-low-preserved c =
 pub returns : goal.returns
 returns c =
     let v = c.loop-low.invariant in record {
-      before = v;
+      before = v.before;
       after = λ i a b. v.after i (omega (arith, c.loop-low-test.false)) b;
       within = omega (arith, v.ordered, v.within);
     }

@@ -15,7 +15,7 @@ use Rattle.hits.proofs.Finding.{Fitting, fitting}
 use Rattle.call.proofs.Rulewise.{fits_hits_lem}
 use Rattle.call.proofs.Listing.{Back, told_back, listed_few, listed_below}
 use Rattle.call.proofs.picked.find_listed.Goals as goal
-use Rattle.call.proofs.picked.find_listed.Goals.{After-find_hits-found, After-pick_flags, After-pick_floats, After-pick_founds, After-pick_numbers, After-pick_operand, After-pick_operand-2, Start}
+use Rattle.call.proofs.picked.find_listed.Goals.{After-find_hits-found, Start}
 
 -- ---- as it comes
 
@@ -43,37 +43,18 @@ module _ (c : Start) where
 -- ---- what is found
 
 module _ (c : After-find_hits-found) where
-  abbrev numbered : After-pick_founds
-  numbered = c
-
-  abbrev seconded : After-pick_operand-2
-  seconded = numbered
-
-  abbrev firsted : After-pick_operand
-  firsted = seconded
-
-  abbrev valued : After-pick_floats
-  valued = firsted
-
-  abbrev columned : After-pick_numbers
-  columned = valued
-
-  abbrev flagged : After-pick_flags
-  flagged = columned
-
   abbrev start : Start
-  start = at-founds numbered
+  start = (goal.at.After-find_hits-found c).Start
 
   abbrev shorts : Known
   shorts =
-      known valued.Pick-floats.last.1.1.0 firsted.pick-operand.last.1.1.1.0 seconded.pick-operand2.last.1.1.1.0
-      numbered.pick-founds.last.1.1.1.0
+      known c.pick_floats.new.short c.pick_operand.new.short c.pick_operand-2.new.short c.pick_founds.new.short
 
   abbrev cols : List ℕ
-  cols = columned.pick-numbers.last.1.1.0
+  cols = c.pick_numbers.new.short
 
   abbrev flags : List ℕ
-  flags = flagged.pick-flags.last.1.1.0
+  flags = c.pick_flags.new.short
 
   abbrev found : Found
   found = c.find_hits-found.result
@@ -92,18 +73,18 @@ module _ (c : After-find_hits-found) where
 
   fits : fitted ≡ true
   fits =
-      let small = start.pre.0.1 in
+      let small = c.requires.list_value.1 in
       fits_hits_lem 0 (length list) shorts cols flags 129
       (record {
         ordered = omega arith;
         few = omega arith;
         within = omega arith;
-        for_cols = omega (arith, columned.pick-numbers.kept.1.1.0);
-        for_flags = omega (arith, flagged.pick-flags.kept.1.1.0);
-        for_values = omega (arith, valued.Pick-floats.kept.1.1.0);
-        for_firsts = omega (arith, firsted.pick-operand.kept.1.1.1.0);
-        for_seconds = omega (arith, seconded.pick-operand2.kept.1.1.1.0);
-        for_founds = omega (arith, numbered.pick-founds.kept.1.1.1.0);
+        for_cols = omega (arith, c.pick_numbers.auto.short);
+        for_flags = omega (arith, c.pick_flags.auto.short);
+        for_values = omega (arith, c.pick_floats.auto.short);
+        for_firsts = omega (arith, c.pick_operand.auto.short);
+        for_seconds = omega (arith, c.pick_operand-2.auto.short);
+        for_founds = omega (arith, c.pick_founds.auto.short);
       })
 
   back : let a = start.args in
@@ -111,21 +92,21 @@ module _ (c : After-find_hits-found) where
       page list
   back =
       let a = start.args in
-      let small = start.pre.0.1 in
+      let small = c.requires.list_value.1 in
       told_back shorts (longs start) a.range a.test cols flags a.cols.now a.flags.now a.band.from a.band.to found
-      page (fit start).ordered 129 start.pre.0.0
+      page (fit start).ordered 129 c.requires.list_value.0
       (record {
-        value = valued.Pick-floats.ensures;
-        first = firsted.pick-operand.ensures;
-        second = seconded.pick-operand2.ensures;
-        found = numbered.pick-founds.ensures;
-        col = columned.pick-numbers.ensures;
-        flag = flagged.pick-flags.ensures;
+        value = c.pick_floats.ensures;
+        first = c.pick_operand.ensures;
+        second = c.pick_operand-2.ensures;
+        found = c.pick_founds.ensures;
+        col = c.pick_numbers.ensures;
+        flag = c.pick_flags.ensures;
       })
       (omega arith) (length list - 0) (sub-zero (length list)) fitted fits c.find_hits-found.ensures.found c.find_hits-found.ensures.hits
 
   cut : found.count ≤ length page
-  cut = omega (arith, back.few, start.pre.0.1, page_long)
+  cut = omega (arith, back.few, c.requires.list_value.1, page_long)
 
   front : length (take found.count page) ≡ found.count
   front = length-take-le found.count page cut
@@ -151,40 +132,51 @@ pub pick_founds-requires : goal.pick_founds-requires
 pick_founds-requires c = let s = (goal.at.pick_founds-requires c).Start in picks s _ (fit s).for_founds
 
 pub slice_bounds-places-end : goal.slice_bounds-places-end
-slice_bounds-places-end c = cut c
+slice_bounds-places-end c =
+    let e = (goal.at.slice_bounds-places-end c).After-find_hits-found in
+    cut e
 
 pub slice_bounds-put_back-end : goal.slice_bounds-put_back-end
-slice_bounds-put_back-end c = sym (front c)
+slice_bounds-put_back-end c =
+    let e = (goal.at.slice_bounds-put_back-end c).After-find_hits-found in
+    sym (front e)
 
 pub put_back-requires : goal.put_back-requires
-put_back-requires c = (
-  λ k h.
-      let l : k < (found c).count = omega (arith, h, front c) in
-      omega (arith, get_or-take (found c).count (page c) k 0 l, (back c).below k l),
-  omega (arith, front c, (back c).few, few (start c)),
-)
+put_back-requires c =
+    let e = (goal.at.put_back-requires c).After-find_hits-found in (
+      λ k h.
+          let l : k < (found e).count = omega (arith, h, front e) in
+          omega (arith, get_or-take (found e).count (page e) k 0 l, (back e).below k l),
+      omega (arith, front e, (back e).few, few (start e)),
+    )
 
 pub offset_bounds-list-at : goal.offset_bounds-list-at
 offset_bounds-list-at c =
-    omega (arith, (back c).at_within c.if-found.true, (start c).requires.0.1)
+    let e = (goal.at.offset_bounds-list-at c).After-find_hits-found in
+    omega (arith, (back e).at_within c.if-found.true, c.requires.list_value.1)
 
 pub bounds-list-at : goal.bounds-list-at
-bounds-list-at c = (back c).at_within c.if-found.true
+bounds-list-at c =
+    let e = (goal.at.bounds-list-at c).After-find_hits-found in
+    (back e).at_within c.if-found.true
 
 pub overflow_cast-result : goal.overflow_cast-result
 overflow_cast-result c =
-    omega (arith, c.type_inv.list (found c).at)
+    let e = (goal.at.overflow_cast-result c).After-find_hits-found in
+    omega (arith, c.type_inv.list (found e).at)
 
 pub returns-then-found : goal.returns-then-found
 returns-then-found c =
-    let room = length (start c).args.hits.now in record {
-      found = (back c).unresolved c.if-found.true;
-      hits = λ imported. c.put_back.ensures ∙ ap (page_of true room) ((back c).hits imported);
+    let e = (goal.at.returns-then-found c).After-find_hits-found in
+    let room = length c.args.hits.now in record {
+      found = (back e).unresolved c.if-found.true;
+      hits = λ imported. c.put_back.ensures ∙ ap (page_of true room) ((back e).hits imported);
     }
 
 pub returns : goal.returns
 returns c =
-    let room = length (start c).args.hits.now in record {
-      found = (back c).resolved c.if-found.false;
-      hits = λ imported. c.put_back.ensures ∙ ap (page_of true room) ((back c).hits imported);
+    let e = (goal.at.returns c).After-find_hits-found in
+    let room = length c.args.hits.now in record {
+      found = (back e).resolved c.if-found.false;
+      hits = λ imported. c.put_back.ensures ∙ ap (page_of true room) ((back e).hits imported);
     }

@@ -9,7 +9,7 @@ returns-in-Within c =
     record {
       plan = λ kinds wraps nums ats lens pool regions name counter h. c.plan_rule.ensures.plan kinds wraps nums ats lens pool regions name;
       founds = c.plan_rule.ensures.founds;
-      refused = λ test tested. accepted _ (opened c.in-Within.in-Within-own.keys1);
+      refused = λ test tested. (c.in-Within.field-0, c.in-Within.is);
     }
 
 pub returns-in_default : goal.returns-in_default

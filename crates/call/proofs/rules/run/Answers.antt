@@ -18,7 +18,7 @@ use Rattle.places.proofs.Table.{table_finds}
 use Rattle.call.specs.Tables.{number_named, Numbered, Followed, Tabled}
 use Rattle.call.proofs.Tabling.{table_fits, cut_within, cut_long, cut_kept, front_within, front_long, taken_at, front_at, tabled_of}
 use Rattle.call.proofs.rules.run.Goals as goal
-use Rattle.call.proofs.rules.run.Goals.{After-codes_for-codes, After-number_cells, After-number_regions, After-walk_cells, Start}
+use Rattle.call.proofs.rules.run.Goals.{After-codes_for-codes, After-number_cells, After-number_regions, After-walk_cells}
 
 -- an array of 0.0
 abbrev blank : List Float
@@ -27,20 +27,17 @@ blank = replicate 1024 (of_bits binary64 0)
 -- ---- the places
 
 module _ (c : After-walk_cells) where
-  abbrev begun : Start
-  begun = c
-
   abbrev cells : CellColumns
   cells =
-      let a = begun.args in
+      let a = c.args in
       columns a.rows.now a.cols.now a.kinds.now a.wraps.now a.nums.now a.ats.now a.lens.now
 
   -- how many cells and regions there are
   abbrev cell_count : ℕ
-  cell_count = length begun.args.rows.now
+  cell_count = length c.args.rows.now
 
   abbrev region_count : ℕ
-  region_count = length begun.args.region_rows.now
+  region_count = length c.args.region_rows.now
 
   -- one for each region, and what is behind them
   abbrev places : List ℕ
@@ -50,23 +47,25 @@ module _ (c : After-walk_cells) where
   places_rest = drop region_count (replicate 1024 0)
 
   places_cut : length (take region_count (replicate {A = ℕ} 1024 0)) ≡ region_count
-  places_cut = cut_long region_count 0 begun.pre.1.1
+  places_cut = cut_long region_count 0 c.requires.region_cols_value.1
 
   places_long : length places ≡ region_count
   places_long = c.walk_cells.auto.places ∙ places_cut
 
-  followed : let a = begun.args in Followed cells a.region_rows.now a.region_cols.now (places ++ places_rest)
+  followed : let a = c.args in Followed cells a.region_rows.now a.region_cols.now (places ++ places_rest)
   followed i h =
+      let pre = c.requires in
       let room : region_count ≤ length (take region_count (replicate {A = ℕ} 1024 0)) = omega (arith, places_cut) in
-      let fits = table_fits _ _ _ begun.pre.0.1 room in
+      let fits = table_fits _ _ _ pre.cols_value.1 room in
       front_at region_count places places_rest places_long i 0 h
-      ∙ ap (λ (t : List ℕ). get_or t i 0) c.walk_cells.ensures.places ∙ table_finds _ _ _ _ _ fits begun.pre.0.0 begun.pre.1.0 i h
+      ∙ ap (λ (t : List ℕ). get_or t i 0) c.walk_cells.ensures.places
+      ∙ table_finds _ _ _ _ _ fits pre.cols_value.0 pre.region_cols_value.0 i h
 
 -- ---- the numbers
 
 module _ (c : After-number_cells) where
   abbrev walked : After-walk_cells
-  walked = c
+  walked = (goal.at.After-number_cells c).After-walk_cells
 
   -- one for each cell, and what is behind them
   abbrev floats : List Float
@@ -76,7 +75,7 @@ module _ (c : After-number_cells) where
   floats_rest = drop (cell_count walked) blank
 
   floats_cut : length (take (cell_count walked) blank) ≡ cell_count walked
-  floats_cut = cut_long (cell_count walked) (of_bits binary64 0) (begun walked).pre.0.1
+  floats_cut = cut_long (cell_count walked) (of_bits binary64 0) c.requires.cols_value.1
 
   floats_long : length floats ≡ cell_count walked
   floats_long = c.number_cells.auto.floats ∙ floats_cut
@@ -97,7 +96,7 @@ module _ (c : After-number_cells) where
 
 module _ (c : After-number_regions) where
   abbrev made : After-number_cells
-  made = c
+  made = (goal.at.After-number_regions c).After-number_cells
 
   abbrev values : List Float
   values = c.number_regions.new.values
@@ -106,7 +105,7 @@ module _ (c : After-number_regions) where
   values_rest = drop (region_count (walked made)) blank
 
   values_cut : length (take (region_count (walked made)) blank) ≡ region_count (walked made)
-  values_cut = cut_long (region_count (walked made)) (of_bits binary64 0) (begun (walked made)).pre.1.1
+  values_cut = cut_long (region_count (walked made)) (of_bits binary64 0) c.requires.region_cols_value.1
 
   values_long : length values ≡ region_count (walked made)
   values_long = c.number_regions.auto.values ∙ values_cut
@@ -120,20 +119,23 @@ module _ (c : After-number_regions) where
 
 -- ---- all tables
 
--- they are right for each rule
-tabled : (c : After-codes_for-codes)
-    → let n = c in
-    let w = walked (made n) in
-    let a = (begun w).args in
-    (i : ℕ) (d : Rule) → i < w.outline-outline.result.count
-    → Tabled (cells w) a.pool.now (get_or a.rules.records i d).kind a.region_rows.now a.region_cols.now
-    (places w ++ places_rest w) (numbers (made n)) (values n ++ values_rest n) c.codes_for-codes.result
-tabled c i d h =
-    let n = c in
-    let w = walked (made n) in
-    let rules = (begun w).args.rules in
-    tabled_of (cells w) _ _ _ _ _ (followed w) (numbered (made n)) (size (made n)) (named n) _ _ _
-    (λ e. c.codes_for-codes.ensures.coded (cells w).cols (w.outline-outline.ensures.keyed ∙ keys_told rules i d (omega (arith, h, w.outline-outline.ensures.count)) e))
+module _ (c : After-codes_for-codes) where
+  abbrev regions : After-number_regions
+  regions = (goal.at.After-codes_for-codes c).After-number_regions
+
+  -- they are right for each rule
+  tabled : let n = regions in
+      let w = walked (made n) in
+      let a = c.args in
+      (i : ℕ) (d : Rule) → i < c.outline-outline.result.count
+      → Tabled (cells w) a.pool.now (get_or a.rules.records i d).kind a.region_rows.now a.region_cols.now
+      (places w ++ places_rest w) (numbers (made n)) (values n ++ values_rest n) c.codes_for-codes.result
+  tabled i d h =
+      let n = regions in
+      let w = walked (made n) in
+      let told = c.outline-outline.ensures in
+      tabled_of (cells w) _ _ _ _ _ (followed w) (numbered (made n)) (size (made n)) (named n) _ _ _
+      (λ e. c.codes_for-codes.ensures.coded (cells w).cols (told.keyed ∙ keys_told c.args.rules i d (omega (arith, h, told.count)) e))
 
 -- ---- the steps
 
@@ -141,61 +143,69 @@ pub slice_bounds-walk_cells-end : goal.slice_bounds-walk_cells-end
 slice_bounds-walk_cells-end c = sym (cut_long _ 0 c.requires.region_cols_value.1)
 
 pub slice_bounds-number_cells-end : goal.slice_bounds-number_cells-end
-slice_bounds-number_cells-end c = sym (cut_long _ (of_bits binary64 0) (begun c).pre.0.1)
+slice_bounds-number_cells-end c = sym (cut_long _ (of_bits binary64 0) c.requires.cols_value.1)
 
 pub slice_bounds-places-end-2 : goal.slice_bounds-places-end-2
 slice_bounds-places-end-2 c =
-    let w = walked c in
+    let w = (goal.at.slice_bounds-places-end-2 c).After-walk_cells in
     front_within (region_count w) (places w) (places_rest w) (places_long w)
 
 pub slice_bounds-number_regions-end : goal.slice_bounds-number_regions-end
 slice_bounds-number_regions-end c =
-    let w = walked c in
+    let w = (goal.at.slice_bounds-number_regions-end c).After-walk_cells in
     front_long (region_count w) (places w) (places_rest w) (places_long w)
 
 pub slice_bounds-floats-end-2 : goal.slice_bounds-floats-end-2
-slice_bounds-floats-end-2 c = within c
+slice_bounds-floats-end-2 c = within (goal.at.slice_bounds-floats-end-2 c).After-number_cells
 
 pub slice_bounds-number_regions-end-2 : goal.slice_bounds-number_regions-end-2
-slice_bounds-number_regions-end-2 c = size c
+slice_bounds-number_regions-end-2 c = size (goal.at.slice_bounds-number_regions-end-2 c).After-number_cells
 
 pub slice_bounds-values-end : goal.slice_bounds-values-end
-slice_bounds-values-end c = cut_within _ (of_bits binary64 0) (begun (walked c)).pre.1.1
+slice_bounds-values-end c = cut_within _ (of_bits binary64 0) c.requires.region_cols_value.1
 
 pub slice_bounds-number_regions-end-3 : goal.slice_bounds-number_regions-end-3
-slice_bounds-number_regions-end-3 c =
-    sym (cut_long _ (of_bits binary64 0) (begun (walked c)).pre.1.1)
+slice_bounds-number_regions-end-3 c = sym (cut_long _ (of_bits binary64 0) c.requires.region_cols_value.1)
 
 pub slice_bounds-run_rules-end : goal.slice_bounds-run_rules-end
 slice_bounds-run_rules-end c =
-    let w = walked c in
-    cut_kept (region_count w) 0 (places w) w.walk-cells.kept.1.1.1.1.0
+    let w = (goal.at.slice_bounds-run_rules-end c).After-walk_cells in
+    cut_kept (region_count w) 0 (places w) c.walk_cells.auto.places
 
 pub slice_bounds-floats-end-3 : goal.slice_bounds-floats-end-3
-slice_bounds-floats-end-3 c = within c
+slice_bounds-floats-end-3 c = within (goal.at.slice_bounds-floats-end-3 c).After-number_cells
 
 pub slice_bounds-run_rules-end-2 : goal.slice_bounds-run_rules-end-2
-slice_bounds-run_rules-end-2 c = size c
+slice_bounds-run_rules-end-2 c = size (goal.at.slice_bounds-run_rules-end-2 c).After-number_cells
 
 pub slice_bounds-run_rules-end-3 : goal.slice_bounds-run_rules-end-3
 slice_bounds-run_rules-end-3 c =
-    cut_kept (region_count (walked (made c))) (of_bits binary64 0) (values c) c.number_regions.auto.values
+    let n = (goal.at.slice_bounds-run_rules-end-3 c).After-number_regions in
+    cut_kept (region_count (walked (made n))) (of_bits binary64 0) (values n) c.number_regions.auto.values
 
 pub run_rules-ran-requires : goal.run_rules-ran-requires
 run_rules-ran-requires c =
-    let w = walked (made c) in
-    let pre = (begun w).pre in
+    let n = (goal.at.run_rules-ran-requires c).After-number_regions in
+    let w = walked (made n) in
+    let told = c.outline-outline.ensures in
+    let cols = c.requires.cols_value in
+    let regions = c.requires.region_cols_value in
     let few : length c.codes_for-codes.result ≡ 1024 = search rules in record {
-      order_value = (w.outline-outline.ensures.order, w.outline-outline.ensures.count, w.outline-outline.ensures.few);
-      cols_value = (pre.0.0, pre.0.1, pre.0.2, omega (arith, pre.0.1, few));
-      by_index = (c.codes_for-codes.ensures.small, size (made c), pre.0.3);
-      region_cols_value = (pre.1.0, pre.1.1, pre.1.2, front_within (region_count w) (values c) (values_rest c) (values_long c));
+      order_value = (told.order, told.count, told.few);
+      cols_value = (cols.0, cols.1, cols.2, omega (arith, cols.1, few));
+      by_index = (c.codes_for-codes.ensures.small, size (made n), cols.3);
+      region_cols_value = (
+        regions.0,
+        regions.1,
+        regions.2,
+        front_within (region_count w) (values n) (values_rest n) (values_long n),
+      );
     }
 
 pub returns : goal.returns
 returns c =
-    let a = (begun (walked (made c))).args in record {
-      run = c.run_rules-ran.ensures a.kinds.now a.wraps.now a.nums.now a.ats.now a.lens.now (tabled (goal.at.returns c).After-codes_for-codes);
-      scratch = c.clear_f64.ensures
-          ∙ ap (λ (n : ℕ). replicate n zero_f) c.run_rules-ran.auto.scratch;
+    let a = c.args in record {
+      run = c.run_rules-ran.ensures.run a.kinds.now a.wraps.now a.nums.now a.ats.now a.lens.now
+          (tabled (goal.at.returns c).After-codes_for-codes);
+      scratch = c.clear_f64.ensures ∙ ap (λ (n : ℕ). replicate n zero_f) c.run_rules-ran.auto.scratch;
     }

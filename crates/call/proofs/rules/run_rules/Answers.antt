@@ -1,6 +1,5 @@
 use Prim.Native.Nat.{ℕ, ◌-◌, ◌≤◌, ◌<◌}
 use mathlib.Core.Path.{◌≡◌, refl, sym, ap, ◌∙◌}
-use mathlib.Core.Logic.{inl, inr}
 use mathlib.Core.List.{List}
 use native.Mathlib.Omega.{arith}
 use lib.Ieee.{Float}
@@ -15,7 +14,7 @@ use Rattle.turns.proofs.Running.{small_next, running_begun, running_next, runnin
 use Rattle.hits.proofs.Unstopped.{live_front, live_zeros}
 use Rattle.call.proofs.Rulewise.{fits_hits_lem}
 use Rattle.call.proofs.rules.run_rules.Goals as goal
-use Rattle.call.proofs.rules.run_rules.Goals.{After-turn-ran, In-loop-k, Start}
+use Rattle.call.proofs.rules.run_rules.Goals.{After-turn-ran, then-rule, else-rule}
 
 pub loop-k-init : goal.loop-k-init
 loop-k-init c = (
@@ -110,20 +109,14 @@ turn-ran-requires c =
 -- ---- behind the turn
 
 module _ (c : After-turn-ran) where
-  abbrev test : In-loop-k
-  test = c
-
-  abbrev entry : Start
-  entry = test
-
   abbrev flags : List ℕ
   flags = c.turn-ran.new.flags
 
   flags_long : length flags ≡ 1024
-  flags_long = c.turn-ran.auto.flags ∙ test.loop-k.invariant.2.flagged
+  flags_long = c.turn-ran.auto.flags ∙ c.loop-k.invariant.2.flagged
 
-  within : length entry.args.region_rows.now ≤ length flags
-  within = omega (arith, flags_long, entry.pre.1.1.1.1)
+  within : length c.args.region_rows.now ≤ length flags
+  within = omega (arith, flags_long, c.requires.region_cols_value.1)
 
 pub slice_bounds-flags-end : goal.slice_bounds-flags-end
 slice_bounds-flags-end c = within (goal.at.slice_bounds-flags-end c).After-turn-ran
@@ -132,57 +125,56 @@ pub slice_bounds-live-end : goal.slice_bounds-live-end
 slice_bounds-live-end c = sym (length-take-le _ _ (within (goal.at.slice_bounds-live-end c).After-turn-ran))
 
 pub overflow_add-k : goal.overflow_add-k
-overflow_add-k c =
-    let at = (goal.at.overflow_add-k c).After-turn-ran in
-    omega (arith, (test at).loop-test.taken, (entry at).pre.0.2)
+overflow_add-k c = omega (arith, c.loop-k-test.true, c.requires.order_value.2)
 
 pub loop-k-smaller : goal.loop-k-smaller
-loop-k-smaller c =
-    let at = (goal.at.loop-k-smaller c).After-turn-ran in
-    omega (arith, (test at).loop-test.taken)
+loop-k-smaller c = omega (arith, c.loop-k-test.true)
 
 pub loop-k-preserved : goal.loop-k-preserved
 loop-k-preserved c =
     let done = (goal.at.loop-k-preserved c).After-turn-ran in
-    let below = (test done).loop-test.taken in
-    let at = (test done).before.loop in
-    let pre = (entry done).pre.0 in
-    let first : at.k < length (ordered_rules (entry done).args.t1) = omega (arith, below, pre.1) in
-    let few = done.turn.ensures.1.1 in
-    let k = done.turn.kept.1.1.1.1.1.1.1.1.1.1.1.1.1.1.1.1 in
-    let v = at.inv.2 in
-    let regions = length (entry done).args.region-rows.now in (
+    let below = c.loop-k-test.true in
+    let at = c.loop-k in
+    let pre = c.requires.order_value in
+    let first : at.k < length (ordered_rules c.args.rules) = omega (arith, below, pre.1) in
+    let told = c.turn-ran.ensures in
+    let k = c.turn-ran.auto in
+    let inv = at.invariant in
+    let v = inv.2 in
+    let regions = length c.args.region_rows.now in (
       λ kinds wraps nums ats lens tabled.
-          running_next _ _ _ _ _ at.k _ _ _ pre.0 refl first (at.inv.0 kinds wraps nums ats lens tabled)
-          (done.turn.ensures.0 kinds wraps nums ats lens (tabled _ _ (record_within _ _ _ _ pre.0 pre.1 below))),
-      small_next at.inv.1 few.0 few.1 few.2,
+          running_next _ _ _ _ _ at.k _ _ _ pre.0 refl first (inv.0 kinds wraps nums ats lens tabled)
+          (told.turn kinds wraps nums ats lens (tabled _ _ (record_within _ _ _ _ pre.0 pre.1 below))),
+      small_next inv.1 told.few.0 told.few.1 told.few.2,
       record {
-        regions = k.1.1.1.1.1.0 ∙ v.regions;
-        rules = k.1.1.1.1.1.1.0 ∙ v.rules;
-        kinds = k.1.1.1.1.1.1.1.0 ∙ v.kinds;
-        colours = k.1.1.1.1.1.1.1.1.0 ∙ v.colours;
-        ppms = k.1.1.1.1.1.1.1.1.1.0 ∙ v.ppms;
-        shapes = k.1.1.1.1.1.1.1.1.1.1.0 ∙ v.shapes;
-        bar_rules = k.1.1.1.1.1.1.1.1.1.1.1.0 ∙ v.bar_rules;
-        bar_ppms = k.1.1.1.1.1.1.1.1.1.1.1.1.0 ∙ v.bar_ppms;
-        scratch = k.1.1.1.1.1.1.1.1.1.1.1.1.1.0 ∙ v.scratch;
+        regions = k.regions ∙ v.regions;
+        rules = k.ruleids ∙ v.rules;
+        kinds = k.markkinds ∙ v.kinds;
+        colours = k.colours ∙ v.colours;
+        ppms = k.ppms ∙ v.ppms;
+        shapes = k.shapes ∙ v.shapes;
+        bar_rules = k.barrules ∙ v.bar_rules;
+        bar_ppms = k.barppms ∙ v.bar_ppms;
+        scratch = k.scratch ∙ v.scratch;
         flagged = flags_long done;
       },
       omega (arith, below),
-      k.0 ∙ at.inv.4,
-      k.1.0 ∙ at.inv.5,
-      k.1.1.0 ∙ at.inv.6,
-      k.1.1.1.0 ∙ at.inv.7,
+      k.firsts ∙ inv.4,
+      k.seconds ∙ inv.5,
+      k.founds ∙ inv.6,
+      k.hits ∙ inv.7,
       elim c.if-rule.branch [
-        | inl (stops, share, counted, e) ↦ e ∙ counted.ensures ∙ live_front (flags done) _ (within done)
-        | inr (runs, e) ↦ e ∙ at.inv.8 ∙ ap (λ (l : List ℕ). live_from l 0 regions) (sym (done.turn.ensures.1.0 runs.left))
+        | then-rule w ↦ w.alive-is ∙ w.live-alive.ensures ∙ live_front (flags done) _ (within done)
+        | else-rule w ↦ w.alive-is ∙ inv.8 ∙ ap (λ (l : List ℕ). live_from l 0 regions) (sym (told.flags w.if-rule.false))
       ],
     )
 
 pub returns : goal.returns
 returns c =
     let at = c.loop-k in
-    let end : at.k ≡ length (ordered_rules c.args.t1) = omega (arith, at.invariant.3, c.loop-k-test.false, c.requires.order_value.1) in
-    λ kinds wraps nums ats lens tabled.
-    rw c.none_yet-ran.ensures at
-    (ap left_by (running_ended _ _ _ _ at.k end (at.invariant.0 kinds wraps nums ats lens tabled)))
+    let end : at.k ≡ length (ordered_rules c.args.rules) =
+        omega (arith, at.invariant.3, c.loop-k-test.false, c.requires.order_value.1) in record {
+      run = λ kinds wraps nums ats lens tabled.
+          rw c.none_yet-ran.ensures at
+          (ap left_by (running_ended _ _ _ _ at.k end (at.invariant.0 kinds wraps nums ats lens tabled)));
+    }

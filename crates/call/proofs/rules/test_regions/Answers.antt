@@ -48,26 +48,23 @@ module _ (c : Start) where
 
 -- ---- what is known
 
-module _ (meaning : After-find_operands) where
+module _ (c : After-find_operands) where
   abbrev begun : Start
-  begun = looking meaning
+  begun = (goal.at.After-find_operands c).Start
 
   abbrev table : Known
-  table =
-      let a = begun.args in
-      known a.values.now meaning.find-operands.last.1.1.1.1.1.1.1.1.1.1.1.0
-      meaning.find-operands.last.1.1.1.1.1.1.1.1.1.1.1.1.0 a.founds.now
+  table = known c.args.values.now c.find_operands.new.firsts c.find_operands.new.seconds c.args.founds.now
 
   abbrev large : ℕ
-  large = length (take (room begun) begun.args.hits.now)
+  large = length (take (room begun) c.args.hits.now)
 
-  fits : let a = begun.args in
+  fits : let a = c.args in
       fits_hits a.regions.from a.regions.to table a.region_cols.now a.flags.now large ≡ true
   fits =
-      let a = begun.args in
+      let a = c.args in
       let given = fit begun in
       let most = (band begun).within in
-      let long = meaning.find-operands.kept.1.1.1.1.1.1.1.1.1.1.1 in
+      let long = c.find_operands.auto in
       fits_hits_lem a.regions.from a.regions.to table a.region_cols.now a.flags.now large
       (record {
         ordered = (band begun).ordered;
@@ -76,8 +73,8 @@ module _ (meaning : After-find_operands) where
         for_cols = omega (arith, most, given.for_cols);
         for_flags = omega (arith, most, given.for_flags);
         for_values = omega (arith, most, given.for_values);
-        for_firsts = omega (arith, most, given.for_firsts, long.0);
-        for_seconds = omega (arith, most, given.for_seconds, long.1.0);
+        for_firsts = omega (arith, most, given.for_firsts, long.firsts);
+        for_seconds = omega (arith, most, given.for_seconds, long.seconds);
         for_founds = omega (arith, most, given.for_founds);
       })
 
@@ -85,10 +82,10 @@ module _ (meaning : After-find_operands) where
 
 module _ (c : After-find_within-found) where
   abbrev meaning : After-find_operands
-  meaning = c
+  meaning = (goal.at.After-find_within-found c).After-find_operands
 
   abbrev start : Start
-  start = looking meaning
+  start = (goal.at.After-find_within-found c).Start
 
   abbrev found : Found
   found = c.find_within-found.result
@@ -98,11 +95,11 @@ module _ (c : After-find_within-found) where
   page = c.find_within-found.new.hits
 
   abbrev rest : List ℕ
-  rest = drop (room start) start.args.hits.now
+  rest = drop (room start) c.args.hits.now
 
-  within : found.unresolved ≡ true → found.at < length start.args.flags.now
+  within : found.unresolved ≡ true → found.at < length c.args.flags.now
   within some =
-      let a = start.args in
+      let a = c.args in
       omega (
         arith,
         (band start).within,
@@ -116,27 +113,28 @@ module _ (c : After-find_within-found) where
 
 pub returns-then-alive-eq0 : goal.returns-then-alive-eq0
 returns-then-alive-eq0 c =
-    let begun = (goal.at.returns-then-alive-eq0 c).Start in
-    let a = begun.args in
+    let a = c.args in
     let rows = a.region_rows.now in
     let cols = a.region_cols.now in
     let flags = a.flags.now in
     let found = c.nothing_found.result in
-    let no-hits : c.charge_found.result.count ≡ 0 = omega (arith, c.charge_found.ensures.few.0, ap (λ (f : Found). f.count) c.nothing_found.ensures) in
-    let none : live_from flags 0 (length rows) ≡ 0 = sym begun.pre.1.0.2 ∙ c.if-alive-eq0.true in record {
+    let is = c.nothing_found.ensures in
+    let charged = c.charge_found.ensures in
+    let no-hits : c.charge_found.result.count ≡ 0 = omega (arith, charged.few.0, ap (λ (f : Found). f.count) is) in
+    let none : live_from flags 0 (length rows) ≡ 0 = sym c.requires.region_cols_value.2 ∙ c.if-alive-eq0.true in record {
       decided = λ kinds wraps nums ats lens numbered valued counted.
           let cells = columns a.rows.now a.cols.now kinds wraps nums ats lens in
           let sheet = sheet_in cells rows cols a.pool.now a.sheet in
-          stopped_decides sheet a.rule a.test rows cols flags none found c.nothing_found.ensures a.values.now a.hits.now a.limit a.charged
-          c.charge_found.result (λ os. c.charge_found.ensures.decided os a.rule.imported a.values.now a.hits.now);
-      few = (omega (arith, no-hits), c.charge_found.ensures.few.1, c.charge_found.ensures.few.2);
+          stopped_decides sheet a.rule a.test rows cols flags none found is a.values.now a.hits.now a.limit a.charged
+          c.charge_found.result (λ os. charged.decided os a.rule.imported a.values.now a.hits.now);
+      few = (omega (arith, no-hits), charged.few.1, charged.few.2);
       hits = λ k h. omega (arith, h, no-hits);
     }
 
 pub find_operands-requires : goal.find_operands-requires
 find_operands-requires c =
     let begun = (goal.at.find_operands-requires c).Start in record {
-      cols_value = begun.pre.0;
+      cols_value = c.requires.cols_value;
       band_of = (band begun, (fit begun).for_cols, (fit begun).for_values, (fit begun).for_firsts, (fit begun).for_seconds);
     }
 
@@ -155,17 +153,18 @@ slice_bounds-find_within-end-2 c = sym (cut (goal.at.slice_bounds-find_within-en
 pub find_within-found-requires : goal.find_within-found-requires
 find_within-found-requires c =
     let begun = (goal.at.find_within-found-requires c).Start in record {
-      cols_value = (begun.pre.1.0.0, (fit begun).for_cols, (fit begun).few, (band begun).within);
-      hits_value = fits c;
+      cols_value = (c.requires.region_cols_value.0, (fit begun).for_cols, (fit begun).few, (band begun).within);
+      hits_value = fits (goal.at.find_within-found-requires c).After-find_operands;
     }
 
 pub asked_of-requires : goal.asked_of-requires
-asked_of-requires c = within c
+asked_of-requires c = within (goal.at.asked_of-requires c).After-find_within-found
 
 pub returns : goal.returns
 returns c =
-    let begun = start c in
-    let a = begun.args in
+    let at = (goal.at.returns c).After-find_within-found in
+    let begun = start at in
+    let a = c.args in
     let from = a.regions.from in
     let to = a.regions.to in
     let range = a.rule.range in
@@ -174,28 +173,28 @@ returns c =
     let cols = a.region_cols.now in
     let flags = a.flags.now in
     let values = a.values.now in
-    let hits = page c ++ rest c in
+    let hits = page at ++ rest at in
     let is = c.find_within-found.ensures.found imported in
     let held = c.find_within-found.ensures.hits imported in
-    let most : to - from ≤ large (meaning c) = omega (arith, cut begun) in
+    let most : to - from ≤ large (meaning at) = omega (arith, cut begun) in
     let few = c.charge_found-2.ensures.few in
-    let count = found_few (table (meaning c)) range a.test imported cols flags from to (found c) true refl is in record {
+    let count = found_few (table (meaning at)) range a.test imported cols flags from to (found at) true refl is in record {
       decided = λ kinds wraps nums ats lens numbered valued counted.
           let cells = columns a.rows.now a.cols.now kinds wraps nums ats lens in
           let sheet = sheet_in cells rows cols a.pool.now a.sheet in
-          let meant = (meaning c).find-operands.ensures in
-          let knows = known_by cells a.pool.now a.sheet (regions_from rows cols 0 (length rows)) range a.test rows cols (table (meaning c))
-          valued (meant.0 kinds wraps nums ats lens values a.founds.now numbered valued)
-          (meant.1 kinds wraps nums ats lens values a.founds.now numbered valued) counted in
-          found_decides sheet a.rule a.test rows cols flags (table (meaning c)) knows (band begun) (found c) true refl is
-          a.alive c.asked_of.result begun.pre.1.0.2 c.asked_of.ensures hits
-          (found_front (table (meaning c)) range a.test imported cols flags from to (found c) true refl is (large (meaning c)) most (page c)
-          (rest c) held) a.limit a.charged c.charge_found-2.result (λ os. c.charge_found-2.ensures.decided os imported values hits);
+          let meant = c.find_operands.ensures in
+          let knows = known_by cells a.pool.now a.sheet (regions_from rows cols 0 (length rows)) range a.test rows cols (table (meaning at))
+          valued (meant.first kinds wraps nums ats lens values a.founds.now numbered valued)
+          (meant.second kinds wraps nums ats lens values a.founds.now numbered valued) counted in
+          found_decides sheet a.rule a.test rows cols flags (table (meaning at)) knows (band begun) (found at) true refl is
+          a.alive c.asked_of.result c.requires.region_cols_value.2 c.asked_of.ensures hits
+          (found_front (table (meaning at)) range a.test imported cols flags from to (found at) true refl is (large (meaning at)) most (page at)
+          (rest at) held) a.limit a.charged c.charge_found-2.result (λ os. c.charge_found-2.ensures.decided os imported values hits);
       few = (omega (arith, few.0, count, (band begun).within), few.1, few.2);
       hits = λ k h. omega (
         arith,
         (band begun).within,
-        found_below (table (meaning c)) range a.test imported cols flags from to (found c) true refl is (large (meaning c)) most (page c)
-            (rest c) held (band begun).ordered k (omega (arith, h, few.0)),
+        found_below (table (meaning at)) range a.test imported cols flags from to (found at) true refl is (large (meaning at)) most (page at)
+            (rest at) held (band begun).ordered k (omega (arith, h, few.0)),
       );
     }

@@ -13,21 +13,7 @@ use Rattle.turns.specs.Emit.{mark_columns, bar_columns}
 use Rattle.turns.specs.Turns.{state_of, indexed}
 use Rattle.call.proofs.Turning.{front_below, flags_kept, turn_decided}
 use Rattle.call.proofs.rules.turn.Goals as goal
-use Rattle.call.proofs.rules.turn.Goals.{After-decide-said, After-painted, After-put_marks, After-stop_regions, After-struct_known-7-1}
-
--- ---- on the way
-
-abbrev painted-before : After-put_marks → After-painted
-painted-before c = c
-
-abbrev stopped : After-struct_known-7-1 → After-stop_regions
-stopped c = c.before.before.before.before.before
-
-abbrev put : After-struct_known-7-1 → After-put_marks
-put c = put-before c.before
-
-abbrev said : After-struct_known-7-1 → After-decide-said
-said c = said-before (painted-before (put c))
+use Rattle.call.proofs.rules.turn.Goals.{After-decide-said}
 
 -- ---- what is decided
 
@@ -36,13 +22,12 @@ abbrev hits : After-decide-said → List ℕ
 hits c = c.decide-said.new.hits
 
 fit : (c : After-decide-said) → let a = c.args in
-    Fitting 0 (length a.region-rows.now) (known a.values.now a.firsts.now a.seconds.now a.founds.now)
-    a.region-cols.now a.flags.now (length a.hits.now)
+    Fitting 0 (length a.region_rows.now) (known a.values.now a.firsts.now a.seconds.now a.founds.now)
+    a.region_cols.now a.flags.now (length a.hits.now)
 fit c = fitting _ _ _ _ _ _ c.requires.hits_value
 
 short : (c : After-decide-said) → c.decide-said.result.count ≤ length (hits c)
-short c =
-    omega (arith, c.decide-said.ensures.few.0, (fit c).within, c.decide-said.auto.hits)
+short c = omega (arith, c.decide-said.ensures.few.0, (fit c).within, c.decide-said.auto.hits)
 
 few : (c : After-decide-said) → c.decide-said.result.count ≤ 1024
 few c = omega (arith, c.decide-said.ensures.few.0, (fit c).few)
@@ -54,7 +39,12 @@ below c = front_below (hits c) c.decide-said.result.count _ _ (short c) (fit c).
 -- ---- the needs
 
 pub decide-said-requires : goal.decide-said-requires
-decide-said-requires c = c.requires.1
+decide-said-requires c = record {
+  cols_value = c.requires.cols_value;
+  by_index = c.requires.by_index;
+  region_cols_value = c.requires.region_cols_value;
+  hits_value = c.requires.hits_value;
+}
 
 pub slice_bounds-painted-end : goal.slice_bounds-painted-end
 slice_bounds-painted-end c = short (goal.at.slice_bounds-painted-end c).After-decide-said
@@ -63,42 +53,36 @@ pub slice_bounds-painted-end-2 : goal.slice_bounds-painted-end-2
 slice_bounds-painted-end-2 c = sym (length-take-le _ _ (short (goal.at.slice_bounds-painted-end-2 c).After-decide-said))
 
 pub overflow_cast-ran : goal.overflow_cast-ran
-overflow_cast-ran c = omega (arith, (entered (goal.at.overflow_cast-ran c).After-decide-said).requires.0.0)
+overflow_cast-ran c = omega (arith, c.requires.marks_bound.0)
 
 pub put_marks-requires : goal.put_marks-requires
 put_marks-requires c = below (goal.at.put_marks-requires c).After-decide-said
 
 pub draw_bars-requires : goal.draw_bars-requires
-draw_bars-requires c = below (said-before (painted-before (goal.at.draw_bars-requires c).After-put_marks))
+draw_bars-requires c = below (goal.at.draw_bars-requires c).After-decide-said
 
 pub overflow_cast-result : goal.overflow_cast-result
-overflow_cast-result c = omega (arith, few (said-before (painted-before (goal.at.overflow_cast-result c).After-put_marks)))
+overflow_cast-result c = omega (arith, few (goal.at.overflow_cast-result c).After-decide-said)
 
 pub overflow_add-result : goal.overflow_add-result
-overflow_add-result c =
-    let s = said-before (painted-before (goal.at.overflow_add-result c).After-put_marks) in
-    omega (arith, few s, (entered s).pre.0.0)
+overflow_add-result c = omega (arith, few (goal.at.overflow_add-result c).After-decide-said, c.requires.marks_bound.0)
 
 pub overflow_add-result-2 : goal.overflow_add-result-2
-overflow_add-result-2 c =
-    let s = said-before (painted-before (goal.at.overflow_add-result-2 c).After-put_marks) in
-    omega (arith, s.decide.ensures.1.0.1, (entered s).pre.0.1)
+overflow_add-result-2 c = omega (arith, c.decide-said.ensures.few.1, c.requires.marks_bound.1)
 
 pub overflow_add-result-3 : goal.overflow_add-result-3
-overflow_add-result-3 c =
-    let s = said c in
-    omega (arith, s.decide.ensures.1.0.2, (entered s).pre.0.2)
+overflow_add-result-3 c = omega (arith, c.decide-said.ensures.few.2, c.requires.marks_bound.2)
 
 pub returns : goal.returns
 returns c =
-    let s = said c in
-    let a = (entered s).args in
+    let s = (goal.at.returns c).After-decide-said in
+    let a = c.args in
     let marks = mark_columns a.regions.now a.ruleids.now a.markkinds.now a.colours.now a.ppms.now a.shapes.now in
     let st = state_of a.ran a.flags.now marks (bar_columns a.barrules.now a.barppms.now) in
-    let once = s.decide.ensures.1.0 in record {
-      turn = λ kinds wraps nums ats lens tabled. turn_decided (indexed a.index a.rule) _ st a.values.now (hits s) s.decide.result
-          (s.decide.ensures.0 kinds wraps nums ats lens tabled) _ _ _ (stopped c).stop-regions.ensures (put c).put-marks.ensures
-          c.draw-bars.ensures;
-      flags = flags_kept a.rule.stop (take s.decide.result.count (hits s)) a.flags.now _ (stopped c).stop-regions.ensures;
-      few = (omega (arith, few s), omega (arith, once.1), omega (arith, once.2));
+    let said = c.decide-said.ensures in record {
+      turn = λ kinds wraps nums ats lens tabled. turn_decided (indexed a.index a.rule) _ st a.values.now (hits s) c.decide-said.result
+          (said.decided kinds wraps nums ats lens tabled) _ _ _ c.stop_regions.ensures c.put_marks.ensures
+          c.draw_bars.ensures;
+      flags = flags_kept a.rule.stop (take c.decide-said.result.count (hits s)) a.flags.now _ c.stop_regions.ensures;
+      few = (omega (arith, few s), omega (arith, said.few.1), omega (arith, said.few.2));
     }

@@ -1,7 +1,6 @@
 use mathlib.Core.Path.{ap₂}
 use mathlib.Core.Bool.{◌||◌}
 use native.Mathlib.Nat.{sub-zero}
-use native.Mathlib.Omega.{arith}
 use Rattle.model.specs.Job.{bad_cell_at}
 use Rattle.checks.proofs.Searching.{none_passed, numbers_ended}
 use Rattle.checks.proofs.sheet.any_bad_cell.Goals as goal

@@ -1,5 +1,4 @@
 use native.Mathlib.Nat.{sub-zero}
-use native.Mathlib.Omega.{arith}
 use Rattle.model.specs.Job.{bad_region_at}
 use Rattle.checks.proofs.Searching.{none_passed, numbers_ended}
 use Rattle.checks.proofs.sheet.any_bad_region.Goals as goal

@@ -1,6 +1,5 @@
 use mathlib.Core.Path.{sym, ◌∙◌}
 use native.Mathlib.Nat.{sub-zero}
-use native.Mathlib.Omega.{arith}
 use Rattle.checks.proofs.Searching.{number_found, number_passed, numbers_ended}
 use Rattle.checks.proofs.sheet.first_bad_region.Goals as goal
 
