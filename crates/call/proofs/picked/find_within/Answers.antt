@@ -38,17 +38,17 @@ is_wide-requires c = ((fit (goal.at.is_wide-requires c).Start).ordered, (fit (go
 pub list_in-count-requires : goal.list_in-count-requires
 list_in-count-requires c =
     let s = (goal.at.list_in-count-requires c).Start in
-    (s.pre.0.0, s.pre.0.1, s.pre.0.2, (fit s).ordered, s.pre.0.3, omega arith)
+    let p = c.requires.cols_value in
+    (p.0, p.1, p.2, (fit s).ordered, p.3, omega arith)
 
 pub slice_bounds-find_listed-end : goal.slice_bounds-find_listed-end
 slice_bounds-find_listed-end c = sym (front (goal.at.slice_bounds-find_listed-end c).Then-count-le128)
 
 pub find_listed-requires : goal.find_listed-requires
 find_listed-requires c =
-    let s = (goal.at.find_listed-requires c).Start in
     let few = c.if-count-le128.true in record {
       list_value = (c.list_in-count.ensures few, omega (arith, few, front (goal.at.find_listed-requires c).Then-count-le128));
-      hits_value = s.pre.1;
+      hits_value = c.requires.hits_value;
     }
 
 pub returns : goal.returns

@@ -9,22 +9,22 @@ use Rattle.call.proofs.rules.charge_found.Goals as goal
 
 pub returns-in_default : goal.returns-in_default
 returns-in_default c =
-    record {
+    let none = c.untested.ensures in record {
       decided = λ os imported values hits counted front paints.
           decides_same imported values hits _ _ _ (refused_alike _ _ _ _ (judged_as os _ _) _ (opened c.in_default.in_default-own.keys2))
-          (c.untested.ensures.decided _ imported values hits);
-      few = (omega (arith, c.untested.ensures.few.0), c.untested.ensures.few.1, omega (arith, c.untested.ensures.few.2));
+          (none.decided _ imported values hits);
+      few = (omega (arith, none.few.0), none.few.1, omega (arith, none.few.2));
     }
 
 pub returns-in_default-all : goal.returns-in_default-all
 returns-in_default-all c =
-    record {
+    let none = c.untested-in_default-all.ensures in record {
       decided = λ os imported values hits counted front paints.
           rw c.in-Within.is
           (decides_same imported values hits _ _ _
           (refused_among _ _ _ _ (judged_as os _ _) _ _ c.charge_times-all.ensures (opened c.in_default-all.in_default-all-own.keys2))
-          (c.untested-in_default-all.ensures.decided _ imported values hits));
-      few = (omega (arith, c.untested-in_default-all.ensures.few.0), c.untested-in_default-all.ensures.few.1, omega (arith, c.untested-in_default-all.ensures.few.2));
+          (none.decided _ imported values hits));
+      few = (omega (arith, none.few.0), none.few.1, omega (arith, none.few.2));
     }
 
 pub returns : goal.returns

@@ -173,7 +173,7 @@ pub returns : goal.returns
 returns c =
     let at = c.loop-k in
     let end : at.k ≡ length (ordered_rules c.args.rules) =
-        omega (arith, at.invariant.3, c.loop-k-test.false, c.requires.order_value.1) in record {
+    omega (arith, at.invariant.3, c.loop-k-test.false, c.requires.order_value.1) in record {
       run = λ kinds wraps nums ats lens tabled.
           rw c.none_yet-ran.ensures at
           (ap left_by (running_ended _ _ _ _ at.k end (at.invariant.0 kinds wraps nums ats lens tabled)));
