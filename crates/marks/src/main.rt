@@ -1,8 +1,10 @@
 // Reads a job text from standard input and writes its report to standard output. A line on standard error says where one of them fails.
 #![tactic(auto)]
 
-ghost use Rattle.std.specs.Prelude.{◌≡◌, ◌<◌, ◌≤◌, None, length, take};
-ghost use Rattle.std.specs.Io.KnownBytes.{Consumes, IsAtEnd};
+ghost use Rattle.std.specs.Prelude.{◌≡◌, ◌<◌, ◌≤◌, None, IfSome, OnOk, length, take};
+ghost use Rattle.std.specs.Io.KnownBytes.{Appends, Consumes, IsAtEnd};
+ghost use Rattle.reporttext.specs.Longest.{longest};
+ghost use Rattle.reporttext.specs.Reports.{report_on};
 
 use std::io;
 use std::io::{Read, Write};
@@ -53,28 +55,50 @@ fn read_text<R: Read>(reader: &mut R, text: &mut [u8]) -> Input
     }
 }
 
-// The report on a job text: how many of the lent bytes it takes.
+// The report on a job text: how many of the lent bytes it takes. It is there where they are as many as the longest report has.
 fn report_on(text: &[u8], report: &mut [u8]) -> usize
-    ensures { result ≤ length report.new }
+    ensures within { result ≤ length report.new }
+    ensures all { longest ≤ length report.old → take result report.new ≡ report_on text.now }
 {
     whole::whole_job(text, report)
 }
 
-fn main(rt: HostRuntime) -> io::Result<()> {
+// Which of both failed, and why.
+#[derive(Drop)]
+enum Failure {
+    Reading(io::Error),
+    Writing(io::Error),
+}
+
+// Reads to the end of a job text, or to one byte more than one may have, and writes the report on what it read.
+fn print_report<R: Read, W: Write>(reader: &mut R, writer: &mut W) -> Result<(), Failure>
+    ensures { OnOk result (IfSome (R.remaining reader.old) (λ text.
+        Appends (W.contents writer.old) (W.contents writer.new) (report_on (take 65537 text)))) }
+{
     // one byte more than a job text may have
     let mut text = [0u8; 65537];
-    let input = read_text(&mut rt.stdin(), &mut text);
+    let input = read_text(reader, &mut text);
     if let Some(e) = input.failure {
-        let _ = eprintln!(rt; "marks: reading standard input: {e}");
-        return Err(e);
+        return Err(Failure::Reading(e));
     }
     let length = input.length;
     // the longest report
     let mut report = [0u8; 45033];
     let n = report_on(&text[..length], &mut report);
-    match io::writer(&rt).write_all(&report[..n]) {
+    match writer.write_all(&report[..n]) {
         Ok(()) => Ok(()),
-        Err(e) => {
+        Err(e) => Err(Failure::Writing(e)),
+    }
+}
+
+fn main(rt: HostRuntime) -> io::Result<()> {
+    match print_report(&mut rt.stdin(), &mut io::writer(&rt)) {
+        Ok(()) => Ok(()),
+        Err(Failure::Reading(e)) => {
+            let _ = eprintln!(rt; "marks: reading standard input: {e}");
+            Err(e)
+        }
+        Err(Failure::Writing(e)) => {
             let _ = eprintln!(rt; "marks: writing standard output: {e}");
             Err(e)
         }
