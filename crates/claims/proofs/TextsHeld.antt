@@ -26,7 +26,7 @@ pub bad_line : BadLine
 bad_line = lines.bad_line
 
 pub too_many_lem : TooMany
-too_many_lem = lines.too_many
+too_many_lem = lines.too_many_lem
 
 pub one_text : OneText
 one_text = job_text_one

@@ -1,7 +1,7 @@
 -- The arguments of a call, as the reading of its contract (`Pre`, `Post`) has them: lent slices, and the parameters in their order.
 -- Assumes nothing.
 use Rattle.std.specs.Prelude.{ℕ, List}
-use Rattle.std.specs.Borrow.{GName, Bor}
+use Rattle.std.specs.Borrow.{GName, Bor, MutBor}
 use contract.Lifetimes.{Lfts}
 
 -- where lent slices lie, by the number of the parameter; n lifetimes
@@ -10,12 +10,19 @@ pub record Places (n : ℕ) : Type 0 where
   pub place : ℕ → ℕ × ℕ
   pub name : ℕ → GName
 
+-- a slice that is read, and one that is written to
 abbrev pub slice : {A : Type 0} {n : ℕ} → Places n → ℕ → List A → Bor (List A)
-slice w i xs = record { ref_ptr = w.place i; ghost_name = w.name i; now = xs }
+slice w i xs = record { ref_ptr = w.place i; now = xs }
+
+abbrev pub slice_mut : {A : Type 0} {n : ℕ} → Places n → ℕ → List A → MutBor (List A)
+slice_mut w i xs = record { ref_ptr = w.place i; ghost_name = w.name i; now = xs }
 
 -- a slice of numbers
 abbrev pub Numbers : Type 0
 Numbers = Bor (List ℕ)
+
+abbrev pub NumbersMut : Type 0
+NumbersMut = MutBor (List ℕ)
 
 -- the parameters in their order: pairs in pairs
 infixr 3 ◌⊗◌

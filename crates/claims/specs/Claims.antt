@@ -5,7 +5,7 @@
 -- holds is the verdict of `rt check C`; here stands what follows from `Post` for every caller. Assumes nothing.
 use Rattle.std.specs.Prelude.{ℕ, ◌+◌, ◌-◌, ◌*◌, ◌^◌, ◌≤◌, ◌<◌, ◌≡◌, ◌↔◌, List, [], ◌∷◌, length, Float}
 use contract.Lifetimes.{Lfts}
-use Rattle.std.specs.Borrow.{Bor}
+use Rattle.std.specs.Borrow.{MutBor}
 use Rattle.model.specs.declared.Answer.{Answer}
 use Rattle.model.specs.declared.Rules.{Rules}
 use Rattle.model.specs.declared.Span.{Span}
@@ -14,7 +14,7 @@ use Rattle.model.specs.Job.{Job, rules_of, cell_count, region_count, run_of, res
 use Rattle.model.specs.Columns.{Columns, written, columns_of}
 use Rattle.laws.specs.Demands.{WellFormed, Roomy, reached, mark_count, Enough, duplicate_areas, zeros, lengths_of}
 use Rattle.call.proofs.resolve_conditional_paints.Reads as call
-use Rattle.claims.specs.Arguments.{Places, slice, Numbers, ◌⊗◌, ◌&◌}
+use Rattle.claims.specs.Arguments.{Places, slice, slice_mut, Numbers, NumbersMut, ◌⊗◌, ◌&◌}
 
 -- ---- the arguments of the call, by their names
 
@@ -24,7 +24,8 @@ Where = Places 19
 abbrev pub Args : Type 0
 Args =
     Numbers ⊗ Numbers ⊗ Numbers ⊗ Numbers ⊗ Numbers ⊗ Numbers ⊗ Numbers ⊗ Numbers ⊗ Numbers ⊗ Numbers ⊗ Span ⊗ Rules ⊗ ℕ ⊗ ℕ
-    ⊗ Numbers ⊗ Numbers ⊗ Numbers ⊗ Numbers ⊗ Numbers ⊗ Numbers ⊗ Numbers ⊗ Numbers ⊗ Bor (List Float) ⊗ Unit {0}
+    ⊗ NumbersMut ⊗ NumbersMut ⊗ NumbersMut ⊗ NumbersMut ⊗ NumbersMut ⊗ NumbersMut ⊗ NumbersMut ⊗ NumbersMut ⊗ MutBor (List Float)
+    ⊗ Unit {0}
 
 -- a job, a limit, and the nine columns that are lent for writing
 abbrev args : Where → Job → ℕ → Columns → Args
@@ -32,8 +33,8 @@ args w j limit c =
     slice w 0 j.cells.rows & slice w 1 j.cells.cols & slice w 2 j.cells.kinds & slice w 3 j.cells.wraps
     & slice w 4 j.cells.nums & slice w 5 j.cells.ats & slice w 6 j.cells.lens & slice w 7 j.region_rows
     & slice w 8 j.region_cols & slice w 9 j.pool & j.name & j.rules & limit & j.start
-    & slice w 14 c.regions & slice w 15 c.rules & slice w 16 c.kinds & slice w 17 c.colours & slice w 18 c.ppms
-    & slice w 19 c.shapes & slice w 20 c.bar_rules & slice w 21 c.bar_ppms & slice w 22 c.scratch & tt
+    & slice_mut w 14 c.regions & slice_mut w 15 c.rules & slice_mut w 16 c.kinds & slice_mut w 17 c.colours & slice_mut w 18 c.ppms
+    & slice_mut w 19 c.shapes & slice_mut w 20 c.bar_rules & slice_mut w 21 c.bar_ppms & slice_mut w 22 c.scratch & tt
 
 -- the call on a job ends with this answer, and leaves this in the columns that held `before`
 abbrev pub Ends : Where → Job → ℕ → Columns → Answer → Columns → Type 0

@@ -14,7 +14,7 @@ use Rattle.places.specs.declared.Walked.{Walked}
 use Rattle.places.specs.Walk.{standing, walked, table_of}
 use Rattle.places.specs.Reached.{count, is_passed, is_met, reached}
 use Rattle.places.proofs.walk_cells.Reads as walkCall
-use Rattle.claims.specs.Arguments.{Places, slice, Numbers, ◌⊗◌, ◌&◌}
+use Rattle.claims.specs.Arguments.{Places, slice, slice_mut, Numbers, NumbersMut, ◌⊗◌, ◌&◌}
 
 -- ---- the arguments of the walk, by their names
 
@@ -22,7 +22,7 @@ abbrev pub Where : Type 0
 Where = Places 5
 
 abbrev pub Args : Type 0
-Args = Numbers ⊗ Numbers ⊗ Numbers ⊗ Numbers ⊗ Numbers ⊗ Unit {0}
+Args = Numbers ⊗ Numbers ⊗ Numbers ⊗ Numbers ⊗ NumbersMut ⊗ Unit {0}
 
 -- the columns that the walk is over, of cells and of regions
 pub record Sides : Type 0 where
@@ -39,7 +39,7 @@ regions_on s = standing s.region_rows s.region_cols
 -- with the table of places that is lent for writing
 abbrev args : Where → Sides → List ℕ → Args
 args w s table =
-    slice w 0 s.cells.rows & slice w 1 s.cells.cols & slice w 2 s.region_rows & slice w 3 s.region_cols & slice w 4 table & tt
+    slice w 0 s.cells.rows & slice w 1 s.cells.cols & slice w 2 s.region_rows & slice w 3 s.region_cols & slice_mut w 4 table & tt
 
 -- the walk ends with this answer, and leaves this in the table that held `before`
 abbrev pub Ends : Where → Sides → List ℕ → Walked → List ℕ → Type 0

@@ -23,7 +23,7 @@ use Rattle.a1reader.proofs.parse_a1_reference.Reads as readCall
 use Rattle.a1writer.specs.declared.WrittenReference.{WrittenReference}
 use Rattle.a1writer.specs.Answers as Writing
 use Rattle.a1writer.proofs.write_a1_reference.Reads as writeCall
-use Rattle.claims.specs.Arguments.{Places, slice, Numbers, ◌⊗◌, ◌&◌}
+use Rattle.claims.specs.Arguments.{Places, slice, slice_mut, Numbers, NumbersMut, ◌⊗◌, ◌&◌}
 
 -- ---- the calls, by the names of their arguments
 
@@ -31,20 +31,20 @@ abbrev pub Where : Type 0
 Where = Places 2
 
 abbrev pub ReadArgs : Type 0
-ReadArgs = Numbers ⊗ Numbers ⊗ Unit {0}
+ReadArgs = Numbers ⊗ NumbersMut ⊗ Unit {0}
 
 -- the reader on an operand's bytes ends with this answer, and leaves this in the bytes lent for the name, which held `before`
 abbrev pub Reads : Where → List ℕ → List ℕ → ReadReference → List ℕ → Type 0
 Reads w bytes before a after =
-    readCall.Post w.lifetimes (slice w 0 bytes & slice w 1 before & tt) a (slice w 0 bytes & slice w 1 after & tt)
+    readCall.Post w.lifetimes (slice w 0 bytes & slice_mut w 1 before & tt) a (slice w 0 bytes & slice_mut w 1 after & tt)
 
 abbrev pub WriteArgs : Type 0
-WriteArgs = A1Reference ⊗ Numbers ⊗ Numbers ⊗ Unit {0}
+WriteArgs = A1Reference ⊗ Numbers ⊗ NumbersMut ⊗ Unit {0}
 
 -- the writer on a reference, whose name lies in a pool, ends with this answer, and leaves this in the bytes lent for the text
 abbrev pub Writes : Where → A1Reference → List ℕ → List ℕ → WrittenReference → List ℕ → Type 0
 Writes w r pool before a after =
-    writeCall.Post w.lifetimes (r & slice w 1 pool & slice w 2 before & tt) a (r & slice w 1 pool & slice w 2 after & tt)
+    writeCall.Post w.lifetimes (r & slice w 1 pool & slice_mut w 2 before & tt) a (r & slice w 1 pool & slice_mut w 2 after & tt)
 
 -- ---- what the contracts promise
 

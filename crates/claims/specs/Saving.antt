@@ -24,7 +24,7 @@ use Rattle.writer.specs.declared.Saved.{Saved}
 use Rattle.writer.specs.Answers.{summary_of, length_of}
 use Rattle.writer.proofs.write_job.Reads as write
 use Rattle.saveexports.proofs.wavendiru_save_job.Reads as saveCall
-use Rattle.claims.specs.Arguments.{Places, slice, Numbers, ◌⊗◌, ◌&◌}
+use Rattle.claims.specs.Arguments.{Places, slice, slice_mut, Numbers, NumbersMut, ◌⊗◌, ◌&◌}
 use Rattle.claims.specs.Claims as Deciding
 use Rattle.claims.specs.WholeJobs.{Lent, TextAndReport, args as textAndLent}
 
@@ -35,7 +35,7 @@ Where = Places 11
 
 abbrev pub Args : Type 0
 Args =
-    Numbers ⊗ Numbers ⊗ Numbers ⊗ Numbers ⊗ Numbers ⊗ Numbers ⊗ Numbers ⊗ Numbers ⊗ Numbers ⊗ Numbers ⊗ Span ⊗ Rules ⊗ ℕ ⊗ ℕ ⊗ Numbers
+    Numbers ⊗ Numbers ⊗ Numbers ⊗ Numbers ⊗ Numbers ⊗ Numbers ⊗ Numbers ⊗ Numbers ⊗ Numbers ⊗ Numbers ⊗ Span ⊗ Rules ⊗ ℕ ⊗ ℕ ⊗ NumbersMut
     ⊗ Unit {0}
 
 -- a job, a limit, and the bytes that are lent for writing
@@ -43,7 +43,7 @@ abbrev args : Where → Job → ℕ → List ℕ → Args
 args w j limit text =
     slice w 0 j.cells.rows & slice w 1 j.cells.cols & slice w 2 j.cells.kinds & slice w 3 j.cells.wraps
     & slice w 4 j.cells.nums & slice w 5 j.cells.ats & slice w 6 j.cells.lens & slice w 7 j.region_rows
-    & slice w 8 j.region_cols & slice w 9 j.pool & j.name & j.rules & limit & j.start & slice w 14 text & tt
+    & slice w 8 j.region_cols & slice w 9 j.pool & j.name & j.rules & limit & j.start & slice_mut w 14 text & tt
 
 -- the writer on a job ends with this answer, and leaves this in the bytes that held `before`
 abbrev pub Ends : Where → Job → ℕ → List ℕ → Saved → List ℕ → Type 0

@@ -10,7 +10,7 @@ use Rattle.reporttext.specs.Longest.{longest}
 use Rattle.exports.proofs.wavendiru_whole_job.Reads as wholeJob
 use Rattle.exports.proofs.wavendiru_ratio.Reads as ratioCall
 use Rattle.exports.proofs.wavendiru_channel.Reads as channelCall
-use Rattle.claims.specs.Arguments.{Places, slice, Numbers, ◌⊗◌, ◌&◌}
+use Rattle.claims.specs.Arguments.{Places, slice, slice_mut, Numbers, NumbersMut, ◌⊗◌, ◌&◌}
 
 -- ---- the whole job
 
@@ -19,10 +19,10 @@ abbrev pub Lent : Type 0
 Lent = Places 2
 
 abbrev pub TextAndReport : Type 0
-TextAndReport = Numbers ⊗ Numbers ⊗ Unit {0}
+TextAndReport = Numbers ⊗ NumbersMut ⊗ Unit {0}
 
 abbrev pub args : Lent → List ℕ → List ℕ → TextAndReport
-args l text report = slice l 0 text & slice l 1 report & tt
+args l text report = slice l 0 text & slice_mut l 1 report & tt
 
 -- the call on a text ends with this length, and leaves this in the bytes that held `before`
 abbrev pub Prints : Lent → List ℕ → List ℕ → ℕ → List ℕ → Type 0
