@@ -25,8 +25,8 @@ use Rattle.model.specs.Rule.{values, is_bar, verdict}
 use Rattle.model.specs.Run as Run
 use Rattle.model.specs.Run.{RegionState, IndexedRule, has_bar}
 use Rattle.laws.proofs.Covered.{and_true}
-use Rattle.laws.proofs.ShapesOfRules.{number_member, Says, stopped, passed, unresolved, painted, PaintOf}
-use Rattle.laws.proofs.ShapesOfRules.{Planned, deferred, skipped, tested, plan_painted, bar_kind}
+use Rattle.laws.proofs.PaintsOfRules.{number_member, Says, stopped, passed, unresolved, painted, PaintOf}
+use Rattle.laws.proofs.PaintsOfRules.{Planned, deferred, skipped, tested, plan_painted, bar_kind}
 use Rattle.barlaws.specs.Origin.{BarOver}
 
 -- ---- which rules

@@ -23,7 +23,7 @@ use Rattle.laws.proofs.Sorting.{Each}
 use Rattle.laws.proofs.FloatOrder.{Finite, le_not_less}
 use Rattle.laws.proofs.Values.{least_memberᴰ, least_least, greatest_memberᴰ, greatest_greatest, values_finite}
 use Rattle.laws.proofs.Apart.{Apart, same_coordinate_lem, free_none}
-use Rattle.laws.proofs.ShapesOfRules.{number_member}
+use Rattle.laws.proofs.PaintsOfRules.{number_member}
 use Rattle.barlaws.specs.Origin.{NumberIn, LeastIn, GreatestIn, PpmIn}
 use Rattle.barlaws.proofs.Levels.{ratio_level}
 

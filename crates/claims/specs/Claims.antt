@@ -1,8 +1,8 @@
 -- Demands 1 and 3 of the call over lent columns itself, as statements only: each is said of what the contract of
 -- `call::resolve_conditional_paints` asks (`Pre`) and promises (`Post`). proofs/Held.antt proves them.
 -- `Pre` and `Post` of a function F of a crate C are made from its `requires` and `ensures`, in the module `Rattle.C.proofs.F.Reads`;
--- `rt goals C` writes it to target/goals/C/Rattle.C.proofs/proofs/F/Reads.antt. That F, called where `Pre` holds, ends where `Post`
--- holds is the verdict of `rt check C`; here stands what follows from `Post` for every caller. Assumes nothing.
+-- `rt check --generated DIR` in crates/C writes it to DIR/Rattle-C-proofs/F/Reads.antt. That F, called where `Pre` holds, ends where `Post`
+-- holds is the verdict of `rt check` there; here stands what follows from `Post` for every caller. Assumes nothing.
 use Rattle.std.specs.Prelude.{ℕ, ◌+◌, ◌-◌, ◌*◌, ◌^◌, ◌≤◌, ◌<◌, ◌≡◌, ◌↔◌, List, [], ◌∷◌, length, Float}
 use contract.Lifetimes.{Lfts}
 use Rattle.std.specs.Borrow.{MutBor}

@@ -6,6 +6,7 @@ pub mod Ratio
 pub mod Differences
 pub mod Shapes
 pub mod Order
+pub mod PaintsOfRules
 pub mod ShapesOfRules
 pub mod ShapesOfMarks
 pub mod Split

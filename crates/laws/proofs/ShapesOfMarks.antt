@@ -26,8 +26,8 @@ use Rattle.model.specs.Run.{Run, Mark, RegionState, IndexedRule, ordered}
 use Rattle.model.specs.Job.{Job, sheet_of, rules_of, run_of}
 use Rattle.laws.proofs.Sorting.{Each}
 use Rattle.laws.proofs.Order.{ordered_entry}
-use Rattle.laws.proofs.ShapesOfRules.{ShapeOf, PaintOf, Says, stopped, passed, unresolved, painted}
-use Rattle.laws.proofs.ShapesOfRules.{Planned, deferred, skipped, tested, plan_painted}
+use Rattle.laws.proofs.PaintsOfRules.{ShapeOf, PaintOf, Says, stopped, passed, unresolved, painted}
+use Rattle.laws.proofs.PaintsOfRules.{Planned, deferred, skipped, tested, plan_painted}
 
 -- ---- the marks of a run
 

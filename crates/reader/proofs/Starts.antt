@@ -24,6 +24,21 @@ use Rattle.headlines.specs.Heads.{head_of, head_pooled}
 use Rattle.reader.specs.declared.Start.{Start}
 use Rattle.reader.specs.Results.{no_start, started, start_of, start_if, Named}
 
+-- ---- three tests, one after the other, of which the first two came to `o`
+
+module _ (x y z : Bool) {o : Bool} where
+  pub over_first : x ≡ true → o ≡ true → o ≡ (x || y || z)
+  over_first a c = rw (a, c)
+
+  pub over_second : x ≡ false → o ≡ y → o ≡ true → o ≡ (x || y || z)
+  over_second a b c = let d = sym b ∙ c in rw (a, d, c)
+
+  pub not_first : {b : Bool} → o ≡ b → b ≡ true → o ≡ false → z ≡ (x || y || z)
+  not_first d b c = clash true false refl refl (sym b ∙ (sym d ∙ c))
+
+  pub not_second : x ≡ false → o ≡ y → o ≡ false → z ≡ (x || y || z)
+  not_second a b c = let d = sym b ∙ c in rw (a, d)
+
 -- ---- the reader's answers
 
 module _ (s pool : List ℕ) where
