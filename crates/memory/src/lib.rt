@@ -1,3 +1,2 @@
 // Definitions and laws only: what memory that is lent for writing holds when it comes back.
 #![tactic(auto)]
-

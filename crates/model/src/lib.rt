@@ -2,7 +2,6 @@
 // Names are those of conditional.rs where it has them.
 #![tactic(auto)]
 
-
 // ---- the sheet
 
 // A text of the pool: `len` bytes from `at`.
