@@ -40,18 +40,18 @@ pub returns-in-Ok : goal.returns-in-Ok
 returns-in-Ok g c =
     let input = c.read_text-input in
     printed
-        (λ text. resaved 65_536 (read text))
-        65_537
-        input.result.length
-        input.new.text
-        (omega arith)
-        input.ensures.count
-        _
-        _
-        _
-        _
-        _
-        input.ensures.bytes
-        (input.ensures.end (search rules))
-        (c.save_text-n.ensures.all (omega arith))
-        c.in-Ok.ensures.bytes
+    (λ text. resaved 65_536 (read text))
+    65_537
+    input.result.length
+    input.new.text
+    (omega arith)
+    input.ensures.count
+    _
+    _
+    _
+    _
+    _
+    input.ensures.bytes
+    (input.ensures.end (search rules))
+    (c.save_text-n.ensures.all (omega arith))
+    c.in-Ok.ensures.bytes
