@@ -97,7 +97,8 @@ fn put_doubled(text: &mut [u8], at: usize, name: &[u8]) -> usize
     let mut q = at;
     while i < name.len() {
         let b = name[i];
-        if b == b'\'' {
+        let quote = b == b'\'';
+        if quote {
             q = put_byte(text, q, b);
         }
         q = put_byte(text, q, b);

@@ -47,7 +47,8 @@ pub fn is_plain(text: &[u8]) -> bool
         if b == b'*' {
             return false;
         }
-        if b == b'?' {
+        let question = b == b'?';
+        if question {
             return false;
         }
         i += 1;

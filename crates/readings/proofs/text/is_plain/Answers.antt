@@ -22,10 +22,10 @@ returns-then-b-eq42 c =
     (plain_star c.if-b-eq42.true)
     ∙ every_plain _
 
-pub returns-then-b-eq63 : goal.returns-then-b-eq63
-returns-then-b-eq63 c =
+pub returns-then-question : goal.returns-then-question
+returns-then-question c =
     every_failed c.loop-i.invariant c.loop-i-test.true
-    (plain_question c.if-b-eq63.true)
+    (plain_question c.if-question.true)
     ∙ every_plain _
 
 pub overflow_add-i : goal.overflow_add-i
@@ -37,7 +37,7 @@ loop-i-smaller c = omega arith
 pub loop-i-preserved : goal.loop-i-preserved
 loop-i-preserved c =
     every_passed c.loop-i.invariant c.loop-i-test.true
-    (plain_other c.if-b-ge128.false c.if-b-eq42.false c.if-b-eq63.false)
+    (plain_other c.if-b-ge128.false c.if-b-eq42.false c.if-question.false)
 
 pub returns : goal.returns
 returns c = every_ended c.loop-i.invariant c.loop-i-test.false ∙ every_plain _
