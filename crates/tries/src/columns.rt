@@ -1,5 +1,5 @@
 // Columns of a job from a list: the length, how many numbers follow, and these. The others are 0.
-use crate::reader::{State, narrow8, narrow16, narrow32, number};
+use crate::listed::{State, narrow8, narrow16, narrow32, number};
 
 // Reads a column into what is lent for it. The number read last is then the column's length.
 pub(crate) fn read_u8(s: &[u8], st: State, column: &mut [u8]) -> State {

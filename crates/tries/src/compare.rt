@@ -1,5 +1,5 @@
 // What the call gave, held against a list.
-use crate::reader::{State, number, number_or_zero, one_more};
+use crate::listed::{State, number, number_or_zero, one_more};
 use model::Answer;
 
 // How many mismatches of a list are written out.

@@ -2,7 +2,7 @@
 use crate::columns::{
     front_u8, front_u16, front_u32, front_u64, read_u8, read_u16, read_u32, read_u64,
 };
-use crate::reader::{State, narrow32, number};
+use crate::listed::{State, narrow32, number};
 use crate::rules::rules_of;
 use crate::trials::try_runs;
 use model::{Rules, Span};

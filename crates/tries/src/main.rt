@@ -4,13 +4,13 @@
 mod columns;
 mod compare;
 mod jobs;
-mod reader;
+mod listed;
 mod rules;
 mod trials;
 
 ghost use Rattle.std.specs.Prelude.{◌≤◌, length};
 
-use crate::reader::State;
+use crate::listed::State;
 use std::fs::File;
 use std::os::unix::fs::FileExt;
 use std::rt::Files;
@@ -39,7 +39,7 @@ fn write_end(rt: &impl Print, name: &str, st: State) -> io::Result<()> {
     if st.fault == 0 {
         return write_counts(rt, st);
     }
-    let from = reader::moved(st).from;
+    let from = listed::moved(st).from;
     print!(rt; "FAULTY LIST at byte {from}: ")?;
     write_fault(rt, st.fault)?;
     println!(rt; "")
@@ -64,22 +64,22 @@ fn read_part(file: &File, from: u64, part: &mut [u8]) -> usize
 fn read_head(file: &File) -> State {
     let mut part = [0u8; 65536];
     let n = read_part(file, 0, &mut part);
-    reader::number(&part[..n], reader::begin(), u64::MAX)
+    listed::number(&part[..n], listed::begin(), u64::MAX)
 }
 
 fn try_next(rt: &impl Print, file: &File, st: State) -> State {
-    let mut st = reader::moved(st);
-    st.job = reader::one_more(st.job);
+    let mut st = listed::moved(st);
+    st.job = listed::one_more(st.job);
     let mut part = [0u8; 65536];
     let n = read_part(file, st.from, &mut part);
     jobs::try_job(rt, &part[..n], st)
 }
 
 fn read_end(file: &File, st: State) -> State {
-    let st = reader::moved(st);
+    let st = listed::moved(st);
     let mut part = [0u8; 65536];
     let n = read_part(file, st.from, &mut part);
-    reader::end(&part[..n], st)
+    listed::end(&part[..n], st)
 }
 
 // A list: how many jobs, and these. The text of a job has at most 65,536 bytes.

@@ -2,7 +2,7 @@
 // A word that does not fit its field counts as 0.
 ghost use Rattle.std.specs.Prelude.{◌<◌};
 
-use crate::reader::{narrow8, narrow16, narrow32};
+use crate::listed::{narrow8, narrow16, narrow32};
 use lent::at_u64;
 use model::{
     A1Reference, CfRule, ConditionalComparison, ConditionalOperand, DvOp, Priority, Range, Rgb,

@@ -2,7 +2,7 @@
 ghost use Rattle.std.specs.Prelude.{◌≡◌, length};
 
 use crate::compare::{compare_answer, compare_columns};
-use crate::reader::{State, number, one_more};
+use crate::listed::{State, number, one_more};
 use model::{Rules, Span};
 
 // A column that is lent with no zero in it.

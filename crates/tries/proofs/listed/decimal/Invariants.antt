@@ -1,7 +1,7 @@
--- `tries::reader::decimal` is safe and ends. Nothing has to hold from turn to turn, since `longer` tells a number
+-- `tries::listed::decimal` is safe and ends. Nothing has to hold from turn to turn, since `longer` tells a number
 -- that does not fit. The measure is what is left of the text. Assumes nothing.
 use Rattle.std.proofs.Common.{◌-◌, length}
-use Rattle.tries.proofs.reader.decimal.Given as goal
+use Rattle.tries.proofs.listed.decimal.Given as goal
 
 abbrev pub invariant-loop-i : goal.invariant-loop-i
 invariant-loop-i l = Unit {0}
