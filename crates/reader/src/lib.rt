@@ -340,6 +340,8 @@ fn read_text(
 
 // A job text into the columns from index 0 on, with its texts into the front of the pool, and zeros behind them. Where the text is
 // refused, or the job is longer than a column or the pool (6), all that is lent becomes 0.
+// Not inlined: a caller's frame would hold this one's memory for as long as the caller runs.
+#[inline(never)]
 pub fn read_job(
     s: &[u8],
     rows: &mut [u32],
