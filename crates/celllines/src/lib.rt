@@ -196,7 +196,9 @@ fn read_lines(
     pool: &mut [u8],
 ) -> LinesRead
     requires { Room s.now at used }
-    ensures { IsLeft (left_of 0 used (times_p number cell_line.parse s.now at) (columns rows.old cols.old kinds.old wraps.old nums.old ats.old lens.old) pool.old) result (columns rows.new cols.new kinds.new wraps.new nums.new ats.new lens.new) pool.new }
+    ensures { IsLeft (left_of 0 used (times_p number cell_line.parse s.now at)
+        (columns rows.old cols.old kinds.old wraps.old nums.old ats.old lens.old) pool.old)
+        result (columns rows.new cols.new kinds.new wraps.new nums.new ats.new lens.new) pool.new }
 {
     let mut q = at;
     let mut u = used;
@@ -311,7 +313,11 @@ pub fn read_cells(
     pool: &mut [u8],
 ) -> Section
     ensures value { result ≡ section_of used (cells_at s.now at number used) (columns rows.old cols.old kinds.old wraps.old nums.old ats.old lens.old) pool.old }
-    ensures lens_after { (columns rows.new cols.new kinds.new wraps.new nums.new ats.new lens.new ≡ columns_after used (cells_at s.now at number used) (columns rows.old cols.old kinds.old wraps.old nums.old ats.old lens.old) pool.old) × (pool.new ≡ pool_after used (cells_at s.now at number used) (columns rows.old cols.old kinds.old wraps.old nums.old ats.old lens.old) pool.old) }
+    ensures lens_after { (columns rows.new cols.new kinds.new wraps.new nums.new ats.new lens.new
+        ≡ columns_after used (cells_at s.now at number used)
+        (columns rows.old cols.old kinds.old wraps.old nums.old ats.old lens.old) pool.old)
+        × (pool.new ≡ pool_after used (cells_at s.now at number used)
+        (columns rows.old cols.old kinds.old wraps.old nums.old ats.old lens.old) pool.old) }
 {
     if !fields::has_room(s, at, used) {
         clear_cells(rows, cols, kinds, wraps, nums, ats, lens, pool);

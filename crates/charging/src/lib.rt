@@ -55,7 +55,8 @@ impl Counter {
         ensures { result ≡ spend limit self.count (replicate times one) }
     {
         let count = self.count;
-        if times == 0 {
+        let none = times == 0;
+        if none {
             return Charged::Within(self);
         }
         if limit <= count {

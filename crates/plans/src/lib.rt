@@ -172,7 +172,8 @@ fn top_bottom(number: u32, bottom: bool, percent: bool, fill: Rgb, values: &[f64
     if n == 0 {
         return Planned::Of(Plan::Skipped);
     }
-    if number == 0 {
+    let none = number == 0;
+    if none {
         return Planned::Of(Plan::Skipped);
     }
     match ranks::threshold(bottom, values::selected(percent, number, n), values) {

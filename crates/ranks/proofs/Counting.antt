@@ -1,6 +1,8 @@
 -- A value at a place of the values in order passes a test that holds of all below it exactly if more values than that pass it.
 -- Assumes nothing.
-use Rattle.std.proofs.Common.{◌≡◌, ℕ, zero, suc, ◌+◌, ◌<◌, ◌≤◌, Bool, true, false, cond, not, ◌||◌, ltb, leb, List, [], ◌∷◌, length, get_or, drop, sym, refl, ap, ◌∙◌, true≢false, le_of_suc-le-suc, not-suc-le-zero, add-one, arith, drop_of_length-le, drop-cons, ltb-false, ltb-true, le-ltb, lt-ltb, leb-true}
+use Rattle.std.proofs.Common.{◌≡◌, ℕ, zero, suc, ◌+◌, ◌<◌, ◌≤◌, Bool, true, false, cond, not, ◌||◌, ltb, leb, List, [], ◌∷◌}
+use Rattle.std.proofs.Common.{length, get_or, drop, sym, refl, ap, ◌∙◌, true≢false, le_of_suc-le-suc, not-suc-le-zero, add-one}
+use Rattle.std.proofs.Common.{arith, drop_of_length-le, drop-cons, ltb-false, ltb-true, le-ltb, lt-ltb, leb-true}
 use mathlib.Core.Bool.{false≢true}
 use mathlib.Core.List.Perm
 use mathlib.Core.List.{Mem, mem-cons_self, mem-cons_of_mem}

@@ -79,7 +79,8 @@ pub fn lower(b: u8) -> u8
     if b < b'A' {
         return b;
     }
-    if b > b'Z' {
+    let above = b > b'Z';
+    if above {
         return b;
     }
     b + 32

@@ -14,7 +14,11 @@ loop-i-preserved c =
     let left = c.loop-i.invariant in
     let room : length c.args.text.now < last = omega (arith, c.well_formed.0) in
     let second = c.put_byte-q-in-loop-i.ensures in
-    (elim c.if-quote.branch [ then-quote w ↦ doubling_quote left room c.loop-i-test.true w.if-quote.true w.put_byte-q.ensures (rw (w.text-is, w.q-is) at second) | else-quote w ↦ doubling_other left room c.loop-i-test.true w.if-quote.false (rw (w.text-is, w.q-is) at second) ])
+    (elim c.if-quote.branch [
+      | then-quote w ↦ doubling_quote left room c.loop-i-test.true w.if-quote.true w.put_byte-q.ensures
+          (rw (w.text-is, w.q-is) at second)
+      | else-quote w ↦ doubling_other left room c.loop-i-test.true w.if-quote.false (rw (w.text-is, w.q-is) at second)
+    ])
 
 pub returns : goal.returns
 returns c = doubling_done c.loop-i.invariant c.loop-i-test.false

@@ -23,9 +23,9 @@ returns-in-Refused c =
     a.region_rows.now a.region_cols.now a.pool.now a.name a.rules a.start in
     let l = lengths_of (lent a.regions.now a.ruleids.now a.markkinds.now a.colours.now a.ppms.now
     a.shapes.now a.barrules.now a.barppms.now a.scratch.now) in
-    let all = lent_zeros l c.clear_columns.ensures.regions_after c.clear_columns.ensures.ruleids_after c.clear_columns.ensures.markkinds_after c.clear_columns.ensures.colours_after c.clear_columns.ensures.ppms_after c.clear_columns.ensures.shapes_after
-    c.clear_columns.ensures.barrules_after c.clear_columns.ensures.barppms_after
-    c.clear_f64.ensures in
+    let z = c.clear_columns.ensures in
+    let all = lent_zeros l z.regions_after z.ruleids_after z.markkinds_after z.colours_after z.ppms_after z.shapes_after
+    z.barrules_after z.barppms_after c.clear_f64.ensures in
     let done = answers_refused j a.limit l _ _ _ _ c.clear_columns.auto.barrules c.clear_columns.auto.barppms refl c.check-checked.ensures _ _
     c.in-Refused.is all in record {
       answer = done.answer;

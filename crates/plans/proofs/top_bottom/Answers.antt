@@ -10,8 +10,8 @@ use Rattle.plans.proofs.top_bottom.Goals as goal
 pub returns-then-n-eq0 : goal.returns-then-n-eq0
 returns-then-n-eq0 c = sym (planned_none _ _ _ _ _ c.if-n-eq0.true)
 
-pub returns-then-number-eq0 : goal.returns-then-number-eq0
-returns-then-number-eq0 c = rw (c.if-number-eq0.true, planned_zero)
+pub returns-then-none : goal.returns-then-none
+returns-then-none c = rw (c.if-none.true, planned_zero)
 
 pub returns-in-Number : goal.returns-in-Number
 unfolding plan_of_values
@@ -19,12 +19,12 @@ returns-in-Number c =
     let e = sym c.in-Number.is ∙ c.threshold.ensures in
     rw (
       planned_told _ _ _ _ e,
-      rank_some _ _ _ _ _ c.if-n-eq0.false c.if-number-eq0.false,
+      rank_some _ _ _ _ _ c.if-n-eq0.false c.if-none.false,
       told_is _ _ _ e,
       c.selected.ensures,
     )
 
 pub returns-in-Nothing : goal.returns-in-Nothing
 returns-in-Nothing c =
-    let o = orders_rank _ _ _ _ c.if-number-eq0.false in
+    let o = orders_rank _ _ _ _ c.if-none.false in
     sym (planned_untold _ _ _ o (sym c.in-Nothing.is ∙ c.threshold.ensures))

@@ -29,7 +29,12 @@ loop-i-preserved c =
     let l = c.loop-i in
     let h = c.loop-i-test.true in
     let e = sym c.is_ahead_of_zero.ensures in
-    (elim c.if-is_ahead_of_zero.branch [ then-is_ahead_of_zero w ↦ rw w.count-is (counted_more (λ x. comes_before x zero_f) _ l.i l.count nan h l.invariant (e ∙ w.if-is_ahead_of_zero.true)) | else-is_ahead_of_zero w ↦ rw w.count-is (counted_past (λ x. comes_before x zero_f) _ l.i l.count nan h l.invariant (e ∙ w.if-is_ahead_of_zero.false)) ])
+    (elim c.if-is_ahead_of_zero.branch [
+      | then-is_ahead_of_zero w ↦ rw w.count-is
+          (counted_more (λ x. comes_before x zero_f) _ l.i l.count nan h l.invariant (e ∙ w.if-is_ahead_of_zero.true))
+      | else-is_ahead_of_zero w ↦ rw w.count-is
+          (counted_past (λ x. comes_before x zero_f) _ l.i l.count nan h l.invariant (e ∙ w.if-is_ahead_of_zero.false))
+    ])
 
 pub returns : goal.returns
 returns c = let l = c.loop-i in counted_all _ _ l.i l.count c.loop-i-test.false l.invariant

@@ -8,9 +8,9 @@ pub returns-then-b-lt65 : goal.returns-then-b-lt65
 unfolding lower
 returns-then-b-lt65 c = rw (lt-leb 65 c.args.b (omega arith))
 
-pub returns-then-b-gt90 : goal.returns-then-b-gt90
+pub returns-then-above : goal.returns-then-above
 unfolding lower
-returns-then-b-gt90 c = let b = c.args.b in rw (le-leb 65 b (omega arith), lt-leb b 90 (omega arith))
+returns-then-above c = let b = c.args.b in rw (le-leb 65 b (omega arith), lt-leb b 90 (omega arith))
 
 pub returns : goal.returns
 unfolding lower
