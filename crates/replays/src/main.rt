@@ -14,9 +14,11 @@ ghost use Rattle.std.specs.Prelude.{◌≤◌, length};
 
 use crate::list::Line;
 use crate::saving::Outcome;
+use std::env::{Env, FillError};
 use std::fs::File;
+use std::io::Write;
 use std::rt::Files;
-use std::{env, io};
+use std::{io, str};
 
 // Room for a job text and for a report of a list, more than the longest of each.
 const TEXT: usize = 131072;
@@ -238,11 +240,27 @@ fn write_end(rt: &impl Print, name: &str, st: State) -> io::Result<()> {
     write_saved(rt, st)
 }
 
-fn replay_file<R: Files<File = File> + Print>(rt: &R, name: &str) -> io::Result<()> {
-    match File::open(rt, name) {
-        Ok(file) => write_end(rt, name, replay_list(rt, &file)),
-        Err(_) => println!(rt; "{name}: NO LIST"),
+// A list by its name. The system may give any bytes for a name, and a path is text.
+fn replay_file<R: Files<File = File> + Print>(rt: &R, name: &[u8]) -> io::Result<()> {
+    if let Ok(path) = str::from_utf8(name) {
+        if let Ok(file) = File::open(rt, path) {
+            return write_end(rt, path, replay_list(rt, &file));
+        }
     }
+    io::writer(rt).write_all(name)?;
+    println!(rt; ": NO LIST")
+}
+
+// The list that the argument at an index names; false where there is no such argument. A name longer than any path is taken for an empty one.
+fn replay_argument<R: Files<File = File> + Print + Env>(rt: &R, i: usize) -> io::Result<bool> {
+    let mut name = [0u8; 4096];
+    let n = match rt.arg(i, &mut name) {
+        Ok(n) => n,
+        Err(FillError::TooLong) => 0,
+        Err(FillError::NotPresent) => return Ok(false),
+    };
+    replay_file(rt, &name[..n])?;
+    Ok(true)
 }
 
 fn write_memories(rt: &impl Print) -> io::Result<()> {
@@ -252,12 +270,13 @@ fn write_memories(rt: &impl Print) -> io::Result<()> {
 
 fn main(rt: HostRuntime) -> io::Result<()> {
     write_memories(&rt)?;
-    let names = env::args(&rt)?.skip(1);
-    if names.len() == 0 {
-        println!(rt; "NO LIST is named")?;
+    if !replay_argument(&rt, 1)? {
+        return println!(rt; "NO LIST is named");
     }
-    for name in names {
-        replay_file(&rt, name.as_str())?;
+    for i in 2..usize::MAX {
+        if !replay_argument(&rt, i)? {
+            break;
+        }
     }
     Ok(())
 }

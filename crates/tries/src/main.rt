@@ -11,10 +11,12 @@ mod trials;
 ghost use Rattle.std.specs.Prelude.{◌≤◌, length};
 
 use crate::listed::State;
+use std::env::{Env, FillError};
 use std::fs::File;
+use std::io::Write;
 use std::os::unix::fs::FileExt;
 use std::rt::Files;
-use std::{env, io};
+use std::{io, str};
 
 fn write_fault(rt: &impl Print, fault: u8) -> io::Result<()> {
     match fault {
@@ -96,16 +98,34 @@ fn try_list(rt: &impl Print, file: &File) -> State {
     read_end(file, st)
 }
 
-fn try_file<R: Files<File = File> + Print>(rt: &R, name: &str) -> io::Result<()> {
-    match File::open(rt, name) {
-        Ok(file) => write_end(rt, name, try_list(rt, &file)),
-        Err(_) => println!(rt; "{name}: NO LIST"),
+// A list by its name. The system may give any bytes for a name, and a path is text.
+fn try_file<R: Files<File = File> + Print>(rt: &R, name: &[u8]) -> io::Result<()> {
+    if let Ok(path) = str::from_utf8(name) {
+        if let Ok(file) = File::open(rt, path) {
+            return write_end(rt, path, try_list(rt, &file));
+        }
     }
+    io::writer(rt).write_all(name)?;
+    println!(rt; ": NO LIST")
+}
+
+// The list that the argument at an index names; false where there is no such argument. A name longer than any path is taken for an empty one.
+fn try_argument<R: Files<File = File> + Print + Env>(rt: &R, i: usize) -> io::Result<bool> {
+    let mut name = [0u8; 4096];
+    let n = match rt.arg(i, &mut name) {
+        Ok(n) => n,
+        Err(FillError::TooLong) => 0,
+        Err(FillError::NotPresent) => return Ok(false),
+    };
+    try_file(rt, &name[..n])?;
+    Ok(true)
 }
 
 fn main(rt: HostRuntime) -> io::Result<()> {
-    for name in env::args(&rt)?.skip(1) {
-        try_file(&rt, name.as_str())?;
+    for i in 1..usize::MAX {
+        if !try_argument(&rt, i)? {
+            break;
+        }
     }
     Ok(())
 }
