@@ -1,7 +1,7 @@
 -- What stands between quotes, one byte of the name at a time. Assumes nothing.
 use Prim.Native.Nat.{ℕ, suc, ◌+◌, ◌≤◌, ◌<◌}
 use mathlib.Core.Path.{◌≡◌, refl, sym, ap, ◌∙◌}
-use mathlib.Core.Bool.{Bool, true, false, ◌&&◌, and-true, and_assoc}
+use mathlib.Core.Bool.{Bool, true, false, cond, ◌&&◌, and-true, and_assoc}
 use mathlib.Core.List.{List, ◌∷◌}
 use native.Mathlib.Omega.{arith}
 use lib.ListN.{length, drop, get_or, drop_of_length-le}
@@ -16,7 +16,13 @@ use Rattle.a1text.specs.Names.{unquoted_from}
 use Rattle.a1text.proofs.Runs.{at_place, begins_first}
 use Rattle.a1text.proofs.Parts.{stands}
 use Rattle.a1text.proofs.Quotes.{is_quote, unquoted_byte, unquoted_two, unquoted_end}
-use Rattle.a1reader.specs.Parts.{unclosed, between_of}
+use Rattle.std.specs.Prelude.{Some, None}
+use Rattle.std.specs.Bool.{then_some}
+use Rattle.a1reader.specs.Parts.{between_of}
+
+then_is : {A : Type 0} (b : Bool) (x : A) → then_some b x ≡ cond b (Some x) None
+then_is true x = refl
+then_is false x = refl
 
 -- a byte other than 0 at a place is within the text
 pub byte_within : (s : List ℕ) (at b : ℕ) → 1 ≤ b → get_or s at 0 ≡ b → at < length s
@@ -62,15 +68,15 @@ module _ {s : List ℕ} {at n : ℕ} {ok : Bool} {q : ℕ} (c : Quoting s at n o
 
   -- a quote, and no second one
   pub quoting_end : get_or s q 0 ≡ 39 → (get_or s (q + 1) 0 ≡ 39 → ⊥)
-      → record { ok = ok; length = n; next = q + 1 } ≡ between_of 0 true (unquoted_from at (drop at s))
+      → then_some ok (record { length = n; next = q + 1 }) ≡ between_of 0 true (unquoted_from at (drop at s))
   unfolding every
   quoting_end e f =
       let z : n + 0 ≡ n = omega arith in
       let no : begins_with is_quote (drop (q + 1) s) ≡ false =
       sym (begins_first is_quote refl (drop (q + 1) s)) ∙ (ap is_quote (sym (at_place s (q + 1))) ∙ ne_eqb _ _ f) in
       let end = ap (unquoted_from q) (stands s q 39 (omega arith) e) ∙ unquoted_end q 39 (drop (q + 1) s) refl no in
-      sym (ap (between_of n ok) end ∙ rw (and-true ok, z)) ∙ c.same
+      then_is ok _ ∙ (sym (ap (between_of n ok) end ∙ rw (and-true ok, z)) ∙ c.same)
 
-  pub quoting_open : length s ≤ q → unclosed ≡ between_of 0 true (unquoted_from at (drop at s))
+  pub quoting_open : length s ≤ q → None ≡ between_of 0 true (unquoted_from at (drop at s))
   unfolding unquoted_from
   quoting_open h = sym (ap (λ (l : List ℕ). between_of n ok (unquoted_from q l)) (drop_of_length-le s h)) ∙ c.same

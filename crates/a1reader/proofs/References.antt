@@ -1,31 +1,34 @@
 -- The reference of a whole text from its name and its cell: what is answered, and what the bytes lent are. Assumes nothing.
-use Prim.Native.Nat.{ℕ, ◌≤◌, ◌<◌}
+use Rattle.a1reader.specs.declared.ReadError.{ReadError}
+use Rattle.std.specs.Prelude.{Option as Optional, Some, None, Ok, Err}
+use Prim.Native.Nat.{ℕ, ◌-◌, ◌≤◌, ◌<◌}
 use mathlib.Core.Path.{◌≡◌, refl, sym, ◌∙◌}
-use mathlib.Core.Bool.{Bool, true, false, cond, not}
+use mathlib.Core.Bool.{Bool, true, false}
 use mathlib.Core.List.{List}
 use mathlib.Core.Option.{Option, none, some}
 use native.Mathlib.Omega.{arith}
 use lib.Dec.{eqb}
 use lib.ListN.{length}
 use lib.Seq.{sets}
-use borrow.Author.Tests.{not-true, not-false, le-leb, lt-leb}
+use borrow.Author.Tests.{le-leb, lt-leb}
 use Rattle.model.specs.Split.{formula}
-use Rattle.model.specs.declared.SheetName.{SheetName}
+use Rattle.model.specs.Options.{SheetName}
 use Rattle.put.specs.Put.{kept_bytes}
 use Rattle.put.proofs.Keeping.{none_kept}
 use Rattle.grammar.specs.Gram.{Got}
 use Rattle.grammar.specs.Gram.Got.{got, bad}
-use Rattle.fields.proofs.Laws.{clash}
 use Rattle.jobtext.specs.Written.{Reference}
 use Rattle.jobtext.specs.Laid.{name_bytes, reference_at}
 use Rattle.a1text.specs.Names.{Name, name_p}
+use Rattle.a1text.specs.Columns.{column_number}
 use Rattle.a1text.specs.Spelling.{spelling}
 use Rattle.a1text.specs.A1.{name_meant, means, ending, reference_of, operand_read}
-use Rattle.a1reader.specs.declared.ReadReference.{ReadReference}
+use Rattle.a1reader.specs.Answers.{ReadReference}
 use Rattle.a1reader.specs.declared.NamePart.{NamePart}
 use Rattle.a1reader.specs.declared.CellPart.{CellPart}
 use Rattle.a1reader.specs.Answers.{read_answer, read_bytes}
-use Rattle.a1reader.specs.Parts.{cell_t, cell, no_cell, cell_of, name_of, cell_behind, name_from, sheet_of}
+use Rattle.a1reader.specs.declared.NamedCell.{NamedCell}
+use Rattle.a1reader.specs.Parts.{cell_t, cell, cell_of, name_of, with_cell, parts_of, name_from, word_in, sheet_of}
 use Rattle.a1reader.proofs.Storing.{stored_page, cleared_page}
 use Rattle.a1reader.proofs.Sheets.{Named, no_name_read, name_read}
 
@@ -47,51 +50,63 @@ pub record Whole (t : List ℕ) (sheet : NamePart) (part : CellPart) : Type 0 wh
   pub named : Named t sheet
   pub read : reference_of t ≡ some (reference_to part named.name)
 
--- a text with a name and this cell, or none, behind it
-abbrev Told : List ℕ → NamePart → Bool → CellPart → Type 0
-Told t sheet true part = Whole t sheet part
-Told t sheet false part = reference_of t ≡ none
-
-module _ (t : List ℕ) {sheet : NamePart} where
-  cell_told : (n : Named t sheet) → Told t sheet (cell_of (length t) (cell.parse t sheet.next)).ok
-      (cell_of (length t) (cell.parse t sheet.next))
-  unfolding reference_of ending spelling means
-  cell_told n = go (cell.parse t sheet.next) refl
-    where
-      last : (x : cell_t) (e : ℕ) (b : Bool) → cell.parse t sheet.next ≡ got x e → eqb e (length t) ≡ b
-          → Told t sheet (cell_of (length t) (got x e)).ok (cell_of (length t) (got x e))
-      last x e true p q = rw q (record { named = n; read = rw (n.is, p, q) })
-      last x e false p q = rw q (rw (n.is, p, q))
-
-      go : (g : Got cell_t) → cell.parse t sheet.next ≡ g → Told t sheet (cell_of (length t) g).ok (cell_of (length t) g)
-      go (got x e) p = last x e (eqb e (length t)) p refl
-      go (bad e) p = rw (n.is, p)
-
-  whole_told : sheet ≡ name_of (name_p t 0) → Told t sheet (cell_behind t sheet).ok (cell_behind t sheet)
-  whole_told f = go sheet.ok refl
-    where
-      go : (b : Bool) → sheet.ok ≡ b → Told t sheet (cond b (cell_of (length t) (cell.parse t sheet.next)) no_cell).ok
-          (cond b (cell_of (length t) (cell.parse t sheet.next)) no_cell)
-      go true e = cell_told (name_read t f e)
-      go false e = no_name_read t f e
-
-  module _ (f : sheet ≡ name_of (name_p t 0)) {part : CellPart} (c : part ≡ cell_behind t sheet) where
-    told : Told t sheet part.ok part
-    told = rw c (whole_told f)
-
-    pub whole_none : not part.ok ≡ true → reference_of t ≡ none
-    whole_none h = go part.ok (not-true part.ok h) told
+module _ (t : List ℕ) where
+  module _ {sheet : NamePart} (n : Named t sheet) where
+    no_cell_told : None ≡ cell_of (length t) (cell.parse t sheet.next) → reference_of t ≡ none
+    unfolding reference_of ending spelling means
+    no_cell_told told = go (cell.parse t sheet.next) refl told
       where
-        go : (b : Bool) → b ≡ false → Told t sheet b part → reference_of t ≡ none
-        go true e w = clash true false refl refl e
-        go false e w = w
+        go : (g : Got cell_t) → cell.parse t sheet.next ≡ g → None ≡ cell_of (length t) g → reference_of t ≡ none
+        go (got x e) p h = last (eqb e (length t)) refl
+          where
+            last : (b : Bool) → eqb e (length t) ≡ b → reference_of t ≡ none
+            last true q = let no = rw q at h in cc
+            last false q = rw (n.is, p, q)
+        go (bad e) p h = rw (n.is, p)
 
-    pub whole_read : not part.ok ≡ false → Whole t sheet part
-    whole_read h = go part.ok (not-false part.ok h) told
+    cell_told : {part : CellPart} → Some part ≡ cell_of (length t) (cell.parse t sheet.next) → Whole t sheet part
+    unfolding reference_of ending spelling means
+    cell_told {part} told = go (cell.parse t sheet.next) refl told
       where
-        go : (b : Bool) → b ≡ true → Told t sheet b part → Whole t sheet part
-        go true e w = w
-        go false e w = clash true false refl refl (sym e)
+        go : (g : Got cell_t) → cell.parse t sheet.next ≡ g → Some part ≡ cell_of (length t) g → Whole t sheet part
+        go (got x e) p h = last (eqb e (length t)) refl
+          where
+            last : (b : Bool) → eqb e (length t) ≡ b → Whole t sheet part
+            last true q =
+                let is = rw q at h in
+                let same : part ≡ record {
+                  row = x.1.1.1 - 1;
+                  col = column_number x.1.0 - 1;
+                  row_absolute = x.1.1.0;
+                  col_absolute = x.0;
+                } = cc in
+                rw same (record { named = n; read = rw (n.is, p, q) })
+            last false q = let no = rw q at h in cc
+        go (bad e) p h = cc
+
+  pub whole_none : None ≡ parts_of t (name_of (name_p t 0)) → reference_of t ≡ none
+  whole_none told = go (name_of (name_p t 0)) refl told
+    where
+      go : (o : Optional NamePart) → name_of (name_p t 0) ≡ o → None ≡ parts_of t o → reference_of t ≡ none
+      go None e h = no_name_read t (sym e)
+      go (Some sheet) e h = last (cell_of (length t) (cell.parse t sheet.next)) refl h
+        where
+          last : (x : Optional CellPart) → cell_of (length t) (cell.parse t sheet.next) ≡ x → None ≡ with_cell sheet x → reference_of t ≡ none
+          last None f k = no_cell_told (name_read t (sym e)) (sym f)
+          last (Some part) f k = cc
+
+  pub whole_read : {p : NamedCell} → Some p ≡ parts_of t (name_of (name_p t 0)) → Whole t p.sheet p.cell
+  whole_read {p} told = go (name_of (name_p t 0)) refl told
+    where
+      go : (o : Optional NamePart) → name_of (name_p t 0) ≡ o → Some p ≡ parts_of t o → Whole t p.sheet p.cell
+      go None e h = cc
+      go (Some sheet) e h = last (cell_of (length t) (cell.parse t sheet.next)) refl h
+        where
+          last : (x : Optional CellPart) → cell_of (length t) (cell.parse t sheet.next) ≡ x → Some p ≡ with_cell sheet x → Whole t p.sheet p.cell
+          last None f k = cc
+          last (Some part) f k =
+              let same : p ≡ record { sheet = sheet; cell = part } = cc in
+              rw same (cell_told (name_read t (sym e)) (sym f))
 
 -- ---- the answer
 
@@ -105,7 +120,7 @@ module _ (operand : List ℕ) {t : List ℕ} (f : t ≡ formula operand) (l : Li
   unfolding operand_read
   read_of o e = rw (← f) e
 
-  pub answered_none : {e : List ℕ} → reference_of t ≡ none → e ≡ kept_bytes l 0 → Answered operand l ReadReference.NoReference e
+  pub answered_none : {e : List ℕ} → reference_of t ≡ none → e ≡ kept_bytes l 0 → Answered operand l (Err ReadError.NoReference) e
   unfolding read_answer read_bytes
   answered_none {e} r k = let o = read_of none r in record { answer = rw o; bytes = rw o (k ∙ none_kept l) }
 
@@ -113,22 +128,22 @@ module _ (operand : List ℕ) {t : List ℕ} (f : t ≡ formula operand) (l : Li
     abbrev name : List ℕ
     name = name_bytes (name_meant w.named.name)
 
-    size : sheet.length ≡ length name
+    size : (word_in sheet).length ≡ length name
     size = w.named.part.length
 
     o : operand_read operand ≡ some (reference_to part w.named.name)
     o = read_of (some (reference_to part w.named.name)) w.read
 
-    pub answered_long : {e : List ℕ} → length l < sheet.length → e ≡ kept_bytes l 0 → Answered operand l ReadReference.NameTooLong e
+    pub answered_long : {e : List ℕ} → length l < (word_in sheet).length → e ≡ kept_bytes l 0 → Answered operand l (Err ReadError.NameTooLong) e
     unfolding read_answer read_bytes
     answered_long {e} h k =
         let over : length l < length name = omega (arith, size) in
         record { answer = rw (o, lt-leb (length name) (length l) over); bytes = rw o (k ∙ cleared_page l name over) }
 
-    pub answered_read : {d e : List ℕ} {s : SheetName} → sheet.length ≤ length l
-        → d ≡ sets l 0 (name_from sheet.length t sheet.first) → e ≡ kept_bytes d sheet.length → s ≡ sheet_of sheet
+    pub answered_read : {d e : List ℕ} {s : SheetName} → (word_in sheet).length ≤ length l
+        → d ≡ sets l 0 (name_from (word_in sheet).length t (word_in sheet).first) → e ≡ kept_bytes d (word_in sheet).length → s ≡ sheet_of sheet
         → Answered operand l
-        (ReadReference.Read (record {
+        (Ok (record {
           sheet = s;
           row = part.row;
           col = part.col;

@@ -1,12 +1,12 @@
 -- What the tests on bytes tell of a byte. Assumes nothing.
-use Prim.Native.Nat.{ℕ, ◌+◌, ◌-◌, ◌≤◌, ◌<◌}
-use mathlib.Core.Path.{◌≡◌, refl, sym}
+use Prim.Native.Nat.{ℕ, ◌-◌, ◌≤◌, ◌<◌}
+use mathlib.Core.Path.{◌≡◌, refl}
 use mathlib.Core.Logic.{◌⊎◌, inl, inr}
-use mathlib.Core.Bool.{Bool, true, false, not, ◌&&◌, ◌||◌, and-eq-true_iff, or-false}
+use mathlib.Core.Bool.{Bool, true, false, ◌&&◌, ◌||◌, and-eq-true_iff}
 use mathlib.Core.List.{List, [], ◌∷◌, ◌++◌}
 use native.Mathlib.Omega.{arith}
 use lib.Dec.{leb, eqb}
-use borrow.Author.Tests.{leb-true, eqb-true, le-leb, lt-leb, lt-ltb, le-ltb, eq-eqb, ne_eqb}
+use borrow.Author.Tests.{leb-true, eqb-true, le-leb, lt-leb, le-ltb, ne_eqb}
 use Rattle.model.specs.Readings.{every}
 use Rattle.a1text.specs.Bytes.{is_capital, is_small, is_letter, is_digit, is_word_byte, is_printable, raised}
 
@@ -25,9 +25,6 @@ module _ (a z b : ℕ) where
 
   pub below_between : b < a → leb a b && leb b z ≡ false
   below_between h = rw (lt-leb a b h)
-
-  pub above_between : a ≤ b → z < b → leb a b && leb b z ≡ false
-  above_between g h = rw (le-leb a b g, lt-leb b z h)
 
 -- ---- letters
 
@@ -131,57 +128,8 @@ pub every_none : (p : ℕ → Bool) → every p [] ≡ true
 unfolding every
 every_none p = refl
 
--- ---- the tests, one comparison after the other
+-- ---- a byte below the letters
 
-or_true : (x : Bool) → (x || true) ≡ true
-or_true true = refl
-or_true false = refl
-
-module _ (b : ℕ) where
-  pub letter_low : b < 65 → false ≡ is_letter b
-  unfolding is_letter is_capital is_small
-  letter_low h = rw (lt-leb 65 b h, lt-leb 97 b (omega arith))
-
-  pub letter_gap : 90 < b → b < 97 → leb 97 b ≡ is_letter b
-  unfolding is_letter is_capital is_small
-  letter_gap g h = rw (le-leb 65 b (omega arith), lt-leb b 90 g, lt-leb 97 b h)
-
-  pub letter_high : 97 ≤ b → leb b 122 ≡ is_letter b
-  unfolding is_letter is_capital is_small
-  letter_high g = rw (le-leb 65 b (omega arith), lt-leb b 90 (omega arith), le-leb 97 b g)
-
-  pub word_underscore : is_letter b ≡ false → b ≡ 95 → true ≡ is_word_byte b
-  unfolding is_word_byte
-  word_underscore n e = rw (n, eq-eqb b 95 e) (sym (or_true (is_digit b)))
-
-  pub word_low : is_letter b ≡ false → (b ≡ 95 → ⊥) → b < 48 → leb 48 b ≡ is_word_byte b
-  unfolding is_word_byte is_digit
-  word_low n e h = rw (n, ne_eqb b 95 e, lt-leb 48 b h)
-
-  pub word_digit : is_letter b ≡ false → (b ≡ 95 → ⊥) → 48 ≤ b → leb b 57 ≡ is_word_byte b
-  unfolding is_word_byte is_digit
-  word_digit n e h = rw (n, ne_eqb b 95 e, le-leb 48 b h) (sym (or-false (leb b 57)))
-
-  pub printable_low : b < 32 → leb 32 b ≡ is_printable b
-  unfolding is_printable
-  printable_low h = rw (lt-ltb b 32 h, lt-leb 32 b h)
-
-  pub printable_high : 32 ≤ b → not (eqb b 127) ≡ is_printable b
-  unfolding is_printable
-  printable_high h = rw (le-ltb b 32 h)
-
-  pub number_low : b < 64 → 0 ≡ raised b - 64
-  unfolding raised is_small
-  number_low h = rw (lt-leb 97 b (omega arith)) (omega arith)
-
-  pub number_capital : b < 97 → b - 64 ≡ raised b - 64
-  unfolding raised is_small
-  number_capital h = rw (lt-leb 97 b h)
-
-  pub number_small : 97 ≤ b → b ≤ 122 → b - 96 ≡ raised b - 64
-  unfolding raised is_small
-  number_small g h = rw (le-leb 97 b g, le-leb b 122 h) (omega arith)
-
-  pub number_high : 97 ≤ b → 122 < b → b - 64 ≡ raised b - 64
-  unfolding raised is_small
-  number_high g h = rw (le-leb 97 b g, lt-leb b 122 h)
+pub letter_low : (b : ℕ) → b < 65 → false ≡ is_letter b
+unfolding is_letter is_capital is_small
+letter_low b h = rw (lt-leb 65 b h, lt-leb 97 b (omega arith))

@@ -1,4 +1,3 @@
-pub mod Tests
 pub mod Texts
 pub mod Doubled
 pub mod Answers

@@ -6,9 +6,6 @@ use mathlib.Core.Bool.{true, false}
 use mathlib.Core.List.{List, [], ◌∷◌, ◌++◌, append_assoc}
 use mathlib.Core.Option.{some}
 use Rattle.model.specs.declared.A1Reference.{A1Reference}
-use Rattle.model.specs.declared.SheetName.{SheetName}
-use Rattle.model.specs.declared.Span.{Span}
-use Rattle.model.specs.Sheet.{text_at}
 use Rattle.grammar.specs.Parts.{bytes}
 use Rattle.grammar.specs.Numbers.{decimal_text}
 use Rattle.jobtext.specs.Said.{name_said, reference_said}
@@ -28,16 +25,6 @@ module _ (bs : List ℕ) where
   pub name_quoted : is_bare bs ≡ false → name_text (name_spelled (some bs)) ≡ (bytes "'" ++ doubled bs) ++ bytes "'!"
   unfolding name_text name_spelled
   name_quoted e = rw (e, append_assoc)
-
-module _ (pool : List ℕ) {sheet : SheetName} where
-  pub sheet_this : sheet ≡ SheetName.This → name_text (name_spelled (name_said pool sheet)) ≡ []
-  unfolding name_text name_spelled name_said
-  sheet_this e = rw e
-
-  pub sheet_named : {span : Span} {bs : List ℕ} → sheet ≡ SheetName.Named span → bs ≡ text_at pool span
-      → name_text (name_spelled (name_said pool sheet)) ≡ name_text (name_spelled (some bs))
-  unfolding name_said
-  sheet_named e p = rw (e, p)
 
 -- ---- columns
 

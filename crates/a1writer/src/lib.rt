@@ -5,7 +5,7 @@ ghost use Rattle.std.specs.Prelude.{◌≡◌, not, ◌&&◌, length};
 ghost use Rattle.std.proofs.Math.Option.{some};
 ghost use Rattle.model.specs.Job.{bad_name};
 ghost use Rattle.model.specs.Readings.{every};
-ghost use Rattle.put.specs.Put.{Laid, Ready};
+ghost use Rattle.put.specs.Put.{Puts, Ready};
 ghost use Rattle.jobtext.specs.Said.{name_said, reference_said};
 ghost use Rattle.a1text.specs.Bytes.{is_printable, is_word_byte};
 ghost use Rattle.a1text.specs.Names.{is_name, is_bare, doubled, name_text};
@@ -15,19 +15,17 @@ ghost use Rattle.a1writer.specs.Answers.{write_answer, write_bytes};
 
 use a1text::{is_letter, is_printable, is_word_byte};
 use checks::names::outside;
-use model::{A1Reference, SheetName};
-use put::{clear_from, keep, put_byte, put_bytes, put_decimal};
+use model::{A1Reference, Span};
+use put::Cursor;
 use readings::text::text_at;
 
 const MAX_WORKSHEET_ROW: u32 = 1_048_575;
 
 const MAX_WORKSHEET_COLUMN: u16 = 16_383;
 
-// What writing a reference comes to.
+// Why a reference is not written.
 #[derive(Clone, Copy)]
-pub enum WrittenReference {
-    // The text takes `length` of the lent bytes.
-    Written { length: usize },
+pub enum WriteError {
     // 14
     NoReference,
     // 15
@@ -39,174 +37,157 @@ pub enum WrittenReference {
 fn all_printable(name: &[u8]) -> bool
     ensures { result ≡ every is_printable name.now }
 {
-    let mut i = 0;
-    while i < name.len() {
-        if !is_printable(name[i]) {
-            return false;
-        }
-        i += 1;
-    }
-    true
+    name.iter().all(|b| is_printable(*b))
 }
 
 fn all_word_bytes(name: &[u8]) -> bool
     ensures { result ≡ every is_word_byte name.now }
 {
-    let mut i = 0;
-    while i < name.len() {
-        if !is_word_byte(name[i]) {
-            return false;
-        }
-        i += 1;
-    }
-    true
+    name.iter().all(|b| is_word_byte(*b))
 }
 
 // 1 to 255 bytes, none of them a control byte.
+#[tactic(auto, unfolding(a1text::specs::Names::is_name))]
 fn is_name(name: &[u8]) -> bool
     ensures { result ≡ is_name name.now }
 {
-    if name.len() == 0 {
-        return false;
-    }
-    if 255 < name.len() {
-        return false;
-    }
-    all_printable(name)
+    !name.is_empty() && name.len() <= 255 && all_printable(name)
 }
 
 // Whether a name needs no quotes.
+#[tactic(auto, unfolding(a1text::specs::Names::is_bare, a1text::specs::Bytes::begins_with))]
 fn is_bare(name: &[u8]) -> bool
     ensures { result ≡ is_bare name.now }
 {
-    if name.len() == 0 {
-        return false;
+    match name {
+        [first, ..] => is_letter(*first) && all_word_bytes(name),
+        [] => false,
     }
-    if !is_letter(name[0]) {
-        return false;
-    }
-    all_word_bytes(name)
 }
 
 // Each quote twice.
-fn put_doubled(text: &mut [u8], at: usize, name: &[u8]) -> usize
-    requires { Ready text.old at }
-    ensures { Laid text.old at (doubled name.now) text.new result }
+fn put_doubled(text: &mut Cursor<'_>, name: &[u8])
+    requires { Ready text.old.bytes.now text.old.at }
+    ensures { Puts text.old (doubled name.now) text.new }
 {
-    let mut i = 0;
-    let mut q = at;
-    while i < name.len() {
-        let b = name[i];
+    for &b in name {
         let quote = b == b'\'';
         if quote {
-            q = put_byte(text, q, b);
+            text.put_byte(b);
         }
-        q = put_byte(text, q, b);
-        i += 1;
+        text.put_byte(b);
     }
-    q
 }
 
-// A name and the exclamation mark behind it, from the first byte on.
-fn put_name(text: &mut [u8], name: &[u8]) -> usize
-    ensures { Laid text.old 0 (name_text (name_spelled (some name.now))) text.new result }
+// A name and the exclamation mark behind it.
+fn put_name(text: &mut Cursor<'_>, name: &[u8])
+    ensures { Puts text.old (name_text (name_spelled (some name.now))) text.new }
 {
     if is_bare(name) {
-        let end = put_bytes(text, 0, name);
-        return put_byte(text, end, b'!');
+        text.put_bytes(name);
+        text.put_byte(b'!')
+    } else {
+        text.put_byte(b'\'');
+        put_doubled(text, name);
+        text.put_bytes(b"'!")
     }
-    let quote = put_byte(text, 0, b'\'');
-    let end = put_doubled(text, quote, name);
-    put_bytes(text, end, b"'!")
 }
 
 // ---- the cell
 
-fn put_mark(text: &mut [u8], at: usize, absolute: bool) -> usize
-    ensures { Laid text.old at (mark_text absolute) text.new result }
+#[tactic(auto, unfolding(grammar::specs::Parts::bytes, a1text::specs::Columns::mark_text))]
+fn put_mark(text: &mut Cursor<'_>, absolute: bool)
+    ensures { Puts text.old (mark_text absolute) text.new }
 {
     if absolute {
-        return put_byte(text, at, b'$');
+        text.put_byte(b'$')
+    } else {
+        text.put_bytes(b"")
     }
-    put_bytes(text, at, b"")
 }
 
 // One to three capital letters.
-fn put_column(text: &mut [u8], at: usize, col: u16) -> usize
-    ensures { Laid text.old at (column_text col) text.new result }
+fn put_column(text: &mut Cursor<'_>, col: u16)
+    ensures { Puts text.old (column_text col) text.new }
 {
     if col < 26 {
-        return put_byte(text, at, 65 + col as u8);
+        text.put_byte(b'A' + col as u8);
+        return;
     }
-    let last = 65 + (col % 26) as u8;
+    let last = b'A' + (col % 26) as u8;
     let ahead = col / 26 - 1;
     if ahead < 26 {
-        let end = put_byte(text, at, 65 + ahead as u8);
-        return put_byte(text, end, last);
+        text.put_byte(b'A' + ahead as u8);
+        text.put_byte(last);
+        return;
     }
-    let first = put_byte(text, at, 64 + (ahead / 26) as u8);
-    let second = put_byte(text, first, 65 + (ahead % 26) as u8);
-    put_byte(text, second, last)
+    text.put_byte(b'A' - 1 + (ahead / 26) as u8);
+    text.put_byte(b'A' + (ahead % 26) as u8);
+    text.put_byte(last);
 }
 
 // ---- the reference
 
-fn put_sheet(text: &mut [u8], pool: &[u8], sheet: SheetName) -> usize
-    ensures { Laid text.old 0 (name_text (name_spelled (name_said pool.now sheet))) text.new result }
+#[tactic(auto, unfolding(a1text::specs::Names::name_text, a1text::specs::A1::name_spelled, jobtext::specs::Said::name_said))]
+fn put_sheet(text: &mut Cursor<'_>, pool: &[u8], sheet: Option<Span>)
+    ensures { Puts text.old (name_text (name_spelled (name_said pool.now sheet))) text.new }
 {
     match sheet {
-        SheetName::This => put_bytes(text, 0, b""),
-        SheetName::Named(span) => put_name(text, text_at(pool, span)),
+        None => text.put_bytes(b""),
+        Some(span) => put_name(text, text_at(pool, span)),
     }
 }
 
-fn put_reference(text: &mut [u8], pool: &[u8], reference: A1Reference) -> usize
-    ensures { Laid text.old 0 (a1.text (reference_said pool.now reference)) text.new result }
+fn put_reference(text: &mut Cursor<'_>, pool: &[u8], reference: A1Reference)
+    ensures { Puts text.old (a1.text (reference_said pool.now reference)) text.new }
 {
-    let sheet = reference.sheet;
-    let name = put_sheet(text, pool, sheet);
-    let left = put_mark(text, name, reference.col_absolute);
-    let letters = put_column(text, left, reference.col);
-    let right = put_mark(text, letters, reference.row_absolute);
-    put_decimal(text, right, (reference.row as u64) + 1)
+    put_sheet(text, pool, reference.sheet);
+    put_mark(text, reference.col_absolute);
+    put_column(text, reference.col);
+    put_mark(text, reference.row_absolute);
+    text.put_decimal(reference.row as u64 + 1);
 }
 
 // No name, or one that lies in the pool and can be typed.
-fn can_name(pool: &[u8], sheet: SheetName) -> bool
+#[tactic(auto, unfolding(model::specs::Job::bad_name, a1text::specs::A1::is_named, jobtext::specs::Said::name_said))]
+fn can_name(pool: &[u8], sheet: Option<Span>) -> bool
     ensures { result ≡ (not (bad_name pool.now sheet) && is_named (name_said pool.now sheet)) }
 {
     match sheet {
-        SheetName::This => true,
-        SheetName::Named(span) => !outside(pool, span) && is_name(text_at(pool, span)),
+        None => true,
+        Some(span) => !outside(pool, span) && is_name(text_at(pool, span)),
     }
 }
 
+#[tactic(auto, unfolding(a1text::specs::A1::writable, a1text::specs::A1::has_text, jobtext::specs::Said::reference_said))]
 fn can_write(pool: &[u8], reference: A1Reference) -> bool
     ensures { result ≡ writable pool.now reference }
 {
-    if MAX_WORKSHEET_ROW < reference.row {
-        return false;
-    }
-    if MAX_WORKSHEET_COLUMN < reference.col {
-        return false;
-    }
-    let sheet = reference.sheet;
-    can_name(pool, sheet)
+    reference.row <= MAX_WORKSHEET_ROW
+        && reference.col <= MAX_WORKSHEET_COLUMN
+        && can_name(pool, reference.sheet)
 }
 
 // The text of a reference whose name, if it has one, lies in a pool.
-pub fn write_a1_reference(reference: A1Reference, pool: &[u8], text: &mut [u8]) -> WrittenReference
+pub fn write_a1_reference(
+    reference: A1Reference,
+    pool: &[u8],
+    text: &mut [u8],
+) -> Result<usize, WriteError>
     ensures answer { result ≡ write_answer (operand_written pool.now reference) (length text.old) }
     ensures text { text.new ≡ write_bytes (operand_written pool.now reference) (length text.old) }
 {
     if !can_write(pool, reference) {
-        clear_from(text, 0);
-        return WrittenReference::NoReference;
+        text.fill(0);
+        return Err(WriteError::NoReference);
     }
-    let end = put_reference(text, pool, reference);
-    let length = keep(text, end);
-    if text.len() < end {
-        return WrittenReference::TextTooLong;
+    let mut cursor = Cursor { bytes: text, at: 0 };
+    put_reference(&mut cursor, pool, reference);
+    let fits = cursor.at <= cursor.bytes.len();
+    let length = cursor.keep();
+    if fits {
+        Ok(length)
+    } else {
+        Err(WriteError::TextTooLong)
     }
-    WrittenReference::Written { length }
 }

@@ -1,5 +1,6 @@
 -- Which rules draw a bar at a region: a bar rule whose upright range holds a coordinate with a number draws one there, of the number's
 -- ratio among the values of its range; no other rule does. Assumes nothing.
+use Rattle.std.specs.Prelude.{Some, None}
 use Prim.Native.Nat.{ℕ, suc}
 use mathlib.Core.Path.{◌≡◌, refl, sym, ap, ◌∙◌, subst}
 use mathlib.Core.Logic.{◌⊎◌, inl, inr}
@@ -12,7 +13,7 @@ use Rattle.model.specs.declared.CfRule.{CfRule}
 use Rattle.model.specs.declared.Outcome.{Outcome}
 use Rattle.model.specs.declared.Paint.{Paint}
 use Rattle.model.specs.declared.Plan.{Plan}
-use Rattle.model.specs.declared.Reading.{Reading}
+use Rattle.model.specs.Options.{Reading}
 use Rattle.model.specs.declared.Rgb.{Rgb}
 use Rattle.model.specs.declared.Rule.{Rule}
 use Rattle.model.specs.declared.Test.{Test}
@@ -100,7 +101,7 @@ module _ (s : Sheet) (r : Rule) (at : CellCoordinate) where
   outside_barless e (Plan.Tested t) = rw e tt
 
   -- a coordinate without a number, under a bar rule
-  blank_bar : (colour : Rgb) (xs : List Float) → numeric_at s.cells at ≡ Reading.Nothing → Barless s r at (Rule.bar colour xs)
+  blank_bar : (colour : Rgb) (xs : List Float) → numeric_at s.cells at ≡ None → Barless s r at (Rule.bar colour xs)
   unfolding Rule.bar verdict Rule.on_value
   blank_bar colour [] e = tt
   blank_bar colour (x ∷ xs) e = rw e (inside (in_range r.range at))
@@ -109,7 +110,7 @@ module _ (s : Sheet) (r : Rule) (at : CellCoordinate) where
       inside true = tt
       inside false = tt
 
-  blank_barless : numeric_at s.cells at ≡ Reading.Nothing → Barless s r at (Rule.plan s r)
+  blank_barless : numeric_at s.cells at ≡ None → Barless s r at (Rule.plan s r)
   unfolding Rule.plan Rule.plan_of
   blank_barless e = by (is_bar r.kind) refl
     where
@@ -125,7 +126,7 @@ module _ (s : Sheet) (r : Rule) (at : CellCoordinate) where
           (up (upright r.range) colour)
 
   -- a rule that does not draw, and any rule where there is no number
-  pub barless : (i : IndexedRule) → i.rule ≡ r → (draws at i ≡ false) ⊎ (numeric_at s.cells at ≡ Reading.Nothing)
+  pub barless : (i : IndexedRule) → i.rule ≡ r → (draws at i ≡ false) ⊎ (numeric_at s.cells at ≡ None)
       → Barless s r at (Rule.plan s r)
   barless i same (inr e) = blank_barless e
   barless i same (inl e) = by (is_bar r.kind) (upright r.range) (in_range r.range at) refl refl refl (rw same at e)
@@ -152,7 +153,7 @@ pub record BarPaint (n : ℕ) (o : Outcome) : Type 0 where
   pub ppm : paint.ppm ≡ n
 
 module _ (s : Sheet) (i : IndexedRule) (at : CellCoordinate) (x : Float) (over : BarOver at i)
-    (num : numeric_at s.cells at ≡ Reading.Number x) where
+    (num : numeric_at s.cells at ≡ Some x) where
   -- the test that the rule comes to
   pub record BarTest : Type 0 where
     pub first : Float
@@ -191,8 +192,8 @@ module _ (s : Sheet) (r : Rule) (colour : Rgb) (low high : Float) where
           (Rule.on_value x (λ x. Rule.barred r.imported colour (normalized x low high))) Outcome.Passed))
       by true b x = λ os. refl
       by false false x = λ os. refl
-      by false true (Reading.Number x) = λ os. refl
-      by false true Reading.Nothing = λ os. refl
+      by false true (Some x) = λ os. refl
+      by false true None = λ os. refl
 
   pub bars_resolved : (ats : List CellCoordinate) (states : List RegionState)
       → Run.is_unresolved (Run.outcomes s r (Test.DataBar colour low high) ats states) ≡ false

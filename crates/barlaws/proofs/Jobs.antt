@@ -1,10 +1,11 @@
 -- The bar of a region is the one that the words of specs/Origin.antt give it, in every run over cells that stand apart, and so in every
 -- well-formed job. Assumes nothing.
+use Rattle.std.specs.Prelude.{Some, None}
 use Prim.Native.Nat.{ℕ, zero, suc, ◌+◌, ◌<◌}
 use native.Mathlib.Nat.{add-zero, zero-add}
 use native.Mathlib.Omega.{arith}
 use mathlib.Core.Path.{◌≡◌, refl, sym, ap, ◌∙◌, subst}
-use mathlib.Core.Logic.{◌⊎◌, inl, inr, ⊎_elim, ∥∥₁_elim}
+use mathlib.Core.Logic.{inl, inr, ⊎_elim, ∥∥₁_elim}
 use mathlib.Core.HLevel.{⊥_prop}
 use mathlib.Core.Bool.{true}
 use mathlib.Core.List.Pairwise
@@ -12,8 +13,7 @@ use mathlib.Core.List.{List, Memᴰ, Pairwise}
 use lib.Ieee.{Float, nan}
 use lib.ListN.{length, get_or, replicate, length-replicate, get_or-replicate}
 use Rattle.model.specs.declared.CellCoordinate.{CellCoordinate}
-use Rattle.model.specs.declared.Priority.{Priority}
-use Rattle.model.specs.declared.Reading.{Reading}
+use Rattle.model.specs.Options.{Priority, Reading}
 use Rattle.model.specs.declared.Rule.{Rule}
 use Rattle.model.specs.Sheet.{Sheet, regions_from}
 use Rattle.model.specs.Readings.{numeric_at}
@@ -38,8 +38,8 @@ unfolding precedence_of
 precedence_is i = by i.rule.priority
   where
     by : (p : Priority) → precedence_of i.index p ≡ priority_or (suc i.index) p
-    by (Priority.Written p) = refl
-    by Priority.Missing = refl
+    by (Some p) = refl
+    by None = refl
 
 -- rules neither of which is earlier have the same index
 neither_earlier : (e i : IndexedRule) → (Earlier e i → ⊥) → (Earlier i e → ⊥) → e.index ≡ i.index
@@ -86,8 +86,8 @@ module _ (rules : List Rule) where
 -- ---- a run
 
 abbrev number_or : Reading → Float
-number_or (Reading.Number x) = x
-number_or Reading.Nothing = nan
+number_or (Some x) = x
+number_or None = nan
 
 module _ (s : Sheet) (rules : List Rule) (k : ℕ) (h : k < length s.regions) (apart : Apart s.cells) (held : Held s) where
   abbrev at : CellCoordinate
@@ -112,7 +112,7 @@ module _ (s : Sheet) (rules : List Rule) (k : ℕ) (h : k < length s.regions) (a
   start_at = get_or-replicate (length s.regions) k untouched untouched h
 
   -- a cell that is not numeric
-  by_blank : numeric_at s.cells at ≡ Reading.Nothing → Explained
+  by_blank : numeric_at s.cells at ≡ None → Explained
   unfolding Run.run
   by_blank blank =
       let none : bar_of final ≡ (0, 0) = run_blank s k h blank (ordered rules) start start_length ∙ ap bar_of start_at in
@@ -124,7 +124,7 @@ module _ (s : Sheet) (rules : List Rule) (k : ℕ) (h : k < length s.regions) (a
         from = λ n e. absurd (omega (arith, e, zeros.0));
       }
 
-  module _ (x : Float) (num : numeric_at s.cells at ≡ Reading.Number x) where
+  module _ (x : Float) (num : numeric_at s.cells at ≡ Some x) where
     -- the bar comes from a rule
     module _ (d : Drawn s k h x num (ordered rules) marks (bar_of final)) where
       rule_of : RuleOf rules d.rule
@@ -198,8 +198,8 @@ module _ (s : Sheet) (rules : List Rule) (k : ℕ) (h : k < length s.regions) (a
   run_bars = by (numeric_at s.cells at) refl
     where
       by : (n : Reading) → numeric_at s.cells at ≡ n → Explained
-      by (Reading.Number x) e = by_number x e
-      by Reading.Nothing e = by_blank e
+      by (Some x) e = by_number x e
+      by None e = by_blank e
 
 -- ---- a job
 

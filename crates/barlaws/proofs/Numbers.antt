@@ -1,5 +1,6 @@
 -- The numbers of a range are its values, where one cell stands at a coordinate: so the least and the greatest value are the range's least
 -- and greatest number, and a ratio between these is one between any such. Assumes nothing.
+use Rattle.std.specs.Prelude.{Some, None}
 use Prim.Native.Nat.{ℕ, zero, suc}
 use mathlib.Core.Path.{◌≡◌, refl, sym, ap, ◌∙◌, subst}
 use mathlib.Core.Bool.{Bool, true, false, cond, not}
@@ -13,7 +14,7 @@ use lib.Ieee.Bits.{of_bits-fits}
 use Rattle.model.specs.declared.CellCoordinate.{CellCoordinate}
 use Rattle.model.specs.declared.CellValue.{CellValue}
 use Rattle.model.specs.declared.Range.{Range}
-use Rattle.model.specs.declared.Reading.{Reading}
+use Rattle.model.specs.Options.{Reading}
 use Rattle.model.specs.Sheet.{Sheet, CellAt, CellColumns, same_coordinate, cell_at, value_of, cell_from, cells_from, in_range}
 use Rattle.model.specs.Readings.{max_wraps, finite, numeric_value, numeric_cell_value, numeric_of, numeric_at}
 use Rattle.model.specs.Ratio.{ratio}
@@ -34,7 +35,7 @@ record ValueCell (r : Range) (cells : List CellAt) (x : Float) : Type 0 where
   found : CellAt
   among : Memᴰ found cells
   inside : in_range r found.at ≡ true
-  number : numeric_cell_value found.cell ≡ Reading.Number x
+  number : numeric_cell_value found.cell ≡ Some x
 
 value_later : {r : Range} {cells : List CellAt} {x : Float} (c : CellAt) → ValueCell r cells x → ValueCell r (c ∷ cells) x
 value_later c v = record { found = v.found; among = Memᴰ.tail v.among; inside = v.inside; number = v.number }
@@ -47,12 +48,12 @@ value_cell r (c ∷ cs) x m = by (in_range r c.at) refl m (value_cell r cs x)
     read : in_range r c.at ≡ true → (n : Reading) → numeric_cell_value c.cell ≡ n
         → Memᴰ x (with_number n (numbers (cells_in r cs))) → (Memᴰ x (numbers (cells_in r cs)) → ValueCell r cs x)
         → ValueCell r (c ∷ cs) x
-    read h (Reading.Number y) e m later = from (Memᴰ.cases_cons m)
+    read h (Some y) e m later = from (Memᴰ.cases_cons m)
       where
         from : (x ≡ y) ⊎ Memᴰ x (numbers (cells_in r cs)) → ValueCell r (c ∷ cs) x
-        from (inl same) = record { found = c; among = Memᴰ.head refl; inside = h; number = e ∙ ap Reading.Number (sym same) }
+        from (inl same) = record { found = c; among = Memᴰ.head refl; inside = h; number = e ∙ ap Some (sym same) }
         from (inr m) = value_later c (later m)
-    read h Reading.Nothing e m later = value_later c (later m)
+    read h None e m later = value_later c (later m)
 
     by : (b : Bool) → in_range r c.at ≡ b → Memᴰ x (numbers (cond b (c ∷ cells_in r cs) (cells_in r cs)))
         → (Memᴰ x (numbers (cells_in r cs)) → ValueCell r cs x) → ValueCell r (c ∷ cs) x
@@ -73,7 +74,7 @@ cell_found {d} (Memᴰ.tail {x} {xs} m) apart = by (same_coordinate x.at d.at) r
 
 -- each number that a coordinate has is an f64
 abbrev pub Held : Sheet → Type 0
-Held s = (at : CellCoordinate) (x : Float) → numeric_at s.cells at ≡ Reading.Number x → T (fits binary64 x)
+Held s = (at : CellCoordinate) (x : Float) → numeric_at s.cells at ≡ Some x → T (fits binary64 x)
 
 module _ (s : Sheet) (r : Range) where
   number_value : (x : Float) → NumberIn s r x → Mem x (values s r)
@@ -135,10 +136,10 @@ module _ (s : Sheet) (r : Range) where
 -- ---- the numbers of lent columns are f64s
 
 abbrev FittingReading : Reading → Type 0
-FittingReading (Reading.Number x) = T (fits binary64 x)
-FittingReading Reading.Nothing = Unit {0}
+FittingReading (Some x) = T (fits binary64 x)
+FittingReading None = Unit {0}
 
-fitting_if : (b : Bool) (x : Reading) → FittingReading x → FittingReading (cond b x Reading.Nothing)
+fitting_if : (b : Bool) (x : Reading) → FittingReading x → FittingReading (cond b x None)
 fitting_if true x h = h
 fitting_if false x h = tt
 
@@ -149,8 +150,8 @@ value_fits kind bits at len = by (eqb kind 1) (eqb kind 2) (eqb kind 3) (eqb kin
     x : Float
     x = of_bits binary64 bits
 
-    number : FittingReading (cond (finite x) (Reading.Number x) Reading.Nothing)
-    number = fitting_if (finite x) (Reading.Number x) (of_bits-fits binary64 bits)
+    number : FittingReading (cond (finite x) (Some x) None)
+    number = fitting_if (finite x) (Some x) (of_bits-fits binary64 bits)
 
     by : (a b c d : Bool) → FittingReading (numeric_value (cond a (CellValue.Number x) (cond b (CellValue.Date x)
         (cond c (CellValue.Text (record { at = at; len = len })) (cond d (CellValue.Bool (eqb len 1)) CellValue.Error)))))
@@ -170,6 +171,6 @@ cells_fit c at i (suc n) = by (same_coordinate (cell_from c i).at at) (cells_fit
     by true later = fitting_if (leb (cell_from c i).cell.wraps max_wraps) _ (value_fits _ _ _ _)
     by false later = later
 
-pub columns_held : (c : CellColumns) (n : ℕ) (at : CellCoordinate) (x : Float) → numeric_at (cells_from c 0 n) at ≡ Reading.Number x
+pub columns_held : (c : CellColumns) (n : ℕ) (at : CellCoordinate) (x : Float) → numeric_at (cells_from c 0 n) at ≡ Some x
     → T (fits binary64 x)
 columns_held c n at x e = subst FittingReading e (cells_fit c at 0 n)

@@ -1,5 +1,6 @@
 -- Where a bar comes from, over a run: by induction over the rules in their order. The first bar rule over the region draws its bar, which
 -- no later rule replaces; a rule with stop-if-true that marks the region ahead of it leaves the region to no later rule. Assumes nothing.
+use Rattle.std.specs.Prelude.{Some, None}
 use Prim.Native.Nat.{ℕ, suc, ◌<◌}
 use native.Mathlib.Omega.{arith}
 use mathlib.Core.Path.{◌≡◌, refl, sym, ap, ap₂, ◌∙◌, subst}
@@ -12,7 +13,6 @@ use mathlib.Core.List.{Pairwise, rel_of_Pairwise-cons}
 use lib.ListN.{length}
 use lib.Ieee.{Float}
 use Rattle.model.specs.declared.CellCoordinate.{CellCoordinate}
-use Rattle.model.specs.declared.Reading.{Reading}
 use Rattle.model.specs.Sheet.{Sheet}
 use Rattle.model.specs.Readings.{numeric_at}
 use Rattle.model.specs.Rule.{values}
@@ -83,14 +83,14 @@ module _ (s : Sheet) (k : ℕ) (h : k < length s.regions) where
       run_barred is (next s k h i states fit) (next_fit s k h i states fit) n (barred_by same ∙ e) ∙ same
 
   -- a region without a number has no bar
-  pub run_blank : numeric_at s.cells at ≡ Reading.Nothing → (is : List IndexedRule) (states : List RegionState) → Fit s k h states
+  pub run_blank : numeric_at s.cells at ≡ None → (is : List IndexedRule) (states : List RegionState) → Fit s k h states
       → bar_of (final is states) ≡ bar_of (state_at k states)
   unfolding Run.run_from Run.followed_by Run.unmarked
   run_blank blank [] states fit = refl
   run_blank blank (i ∷ is) states fit =
       run_blank blank is (next s k h i states fit) (next_fit s k h i states fit) ∙ stays_bare s k h i states fit (inr blank)
 
-  module _ (x : Float) (num : numeric_at s.cells at ≡ Reading.Number x) where
+  module _ (x : Float) (num : numeric_at s.cells at ≡ Some x) where
     -- the bar comes from one of the rules
     pub record Drawn (is : List IndexedRule) (marks : List Mark) (bar : ℕ × ℕ) : Type 0 where
       pub rule : IndexedRule

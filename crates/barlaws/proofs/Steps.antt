@@ -1,5 +1,6 @@
 -- What one rule in its turn does to the state of one region: a stopped region stays, a bar stays, a rule that draws none leaves it, one
 -- that draws gives it to a region that has none, and a mark of a rule with stop-if-true stops it. Assumes nothing.
+use Rattle.std.specs.Prelude.{Some, None}
 use Prim.Native.Nat.{ℕ, suc, ◌<◌}
 use mathlib.Core.Path.{◌≡◌, refl, sym, ap, ◌∙◌}
 use mathlib.Core.Logic.{◌⊎◌}
@@ -10,7 +11,6 @@ use lib.Ieee.{Float}
 use Rattle.model.specs.declared.CellCoordinate.{CellCoordinate}
 use Rattle.model.specs.declared.Outcome.{Outcome}
 use Rattle.model.specs.declared.Plan.{Plan}
-use Rattle.model.specs.declared.Reading.{Reading}
 use Rattle.model.specs.declared.Test.{Test}
 use Rattle.model.specs.Sheet.{Sheet, in_range}
 use Rattle.model.specs.Readings.{numeric_at}
@@ -80,14 +80,14 @@ module _ (s : Sheet) (k : ℕ) (h : k < length s.regions) where
         by true = tt
         by false = rw (says_at s i k states fit t h) (free (state_at k states).stopped)
 
-    pub stays_bare : (draws at i ≡ false) ⊎ (numeric_at s.cells at ≡ Reading.Nothing) → bar_of (state_at k next) ≡ bar_of (state_at k states)
+    pub stays_bare : (draws at i ≡ false) ⊎ (numeric_at s.cells at ≡ None) → bar_of (state_at k next) ≡ bar_of (state_at k states)
     stays_bare e =
         ap bar_of effect.state
         ∙ no_bar_keeps i.index i.rule.stop (state_at k states) here
         (told_barless (Rule.plan s i.rule) (barless s i.rule at i refl e))
 
     -- a rule that draws gives a region that is not stopped and has no bar its bar
-    pub bar_drawn : (x : Float) → numeric_at s.cells at ≡ Reading.Number x → BarOver at i → (state_at k states).stopped ≡ false
+    pub bar_drawn : (x : Float) → numeric_at s.cells at ≡ Some x → BarOver at i → (state_at k states).stopped ≡ false
         → (state_at k states).bar_rule ≡ 0 → bar_of (state_at k next) ≡ (suc i.index, ppm_among x (values s i.rule.range))
     bar_drawn x num over free bare =
         let b = bar_test s i at x over num in

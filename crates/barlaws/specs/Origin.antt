@@ -1,14 +1,13 @@
 -- Where the bar of a region comes from (document 02): the first bar rule, by priority and then by index, whose upright range holds the
 -- region's cell, if that is numeric and no earlier rule with stop-if-true has a mark on the region. Every word is one of the job and of the
 -- marks that an answer has; none is of how the rules are run. Assumes nothing.
-use Rattle.std.specs.Prelude.{ℕ, suc, ◌<◌, ◌≡◌, ◌⊎◌, true, Float, length, get_or}
+use Rattle.std.specs.Prelude.{ℕ, suc, ◌<◌, ◌≡◌, ◌⊎◌, true, Float, length, get_or, Some, None}
 use mathlib.Core.List.{List, Memᴰ}
 use Rattle.std.specs.Float.Ieee.{le}
 use Rattle.model.specs.declared.CellCoordinate.{CellCoordinate}
 use Rattle.model.specs.declared.CfRule.{CfRule}
-use Rattle.model.specs.declared.Priority.{Priority}
+use Rattle.model.specs.Options.{Priority}
 use Rattle.model.specs.declared.Range.{Range}
-use Rattle.model.specs.declared.Reading.{Reading}
 use Rattle.model.specs.declared.Rgb.{Rgb}
 use Rattle.model.specs.declared.Rule.{Rule}
 use Rattle.model.specs.Sheet.{Sheet, in_range, upright}
@@ -21,7 +20,7 @@ use Rattle.model.specs.Job.{Job}
 
 -- the cell at a coordinate is numeric, and this is its number
 abbrev pub Numeric : Sheet → CellCoordinate → Float → Type 0
-Numeric s at x = numeric_at s.cells at ≡ Reading.Number x
+Numeric s at x = numeric_at s.cells at ≡ Some x
 
 -- a number of the range: that of a cell in it
 pub record NumberIn (s : Sheet) (r : Range) (x : Float) : Type 0 where
@@ -55,8 +54,8 @@ pub record RuleOf (rules : List Rule) (i : IndexedRule) : Type 0 where
 
 -- the written priority, or what stands for it
 abbrev pub priority_or : ℕ → Priority → ℕ
-priority_or other (Priority.Written p) = p
-priority_or other Priority.Missing = other
+priority_or other (Some p) = p
+priority_or other None = other
 
 -- the index plus one where none is written
 abbrev pub priority_of : IndexedRule → ℕ
@@ -111,6 +110,6 @@ pub record BarFrom (s : Sheet) (rules : List Rule) (Marked : ℕ → ℕ → Typ
       → (bar_rule ≡ suc i.index) × PpmIn s i.rule.range o.number bar_ppm
   -- otherwise none
   pub otherwise : ((i : IndexedRule) → Origin s rules Marked k at i → ⊥) → (bar_rule ≡ 0) × (bar_ppm ≡ 0)
-  pub blank : numeric_at s.cells at ≡ Reading.Nothing → (bar_rule ≡ 0) × (bar_ppm ≡ 0)
+  pub blank : numeric_at s.cells at ≡ None → (bar_rule ≡ 0) × (bar_ppm ≡ 0)
   -- and so a rule that stands there is the one that it comes from
   pub from : (n : ℕ) → bar_rule ≡ suc n → (i : IndexedRule) × (i.index ≡ n) × Origin s rules Marked k at i

@@ -1,6 +1,7 @@
 -- The cell that a reference to this sheet means from a target, by the numbers of its row and its column. Outside the grid these are numbers
 -- that no cell has. A reference to another sheet reads as nothing, and one whose own place is the range's first cell means the target.
 -- Assumes nothing.
+use Rattle.std.specs.Prelude.{Some, None}
 use Prim.Native.Nat.{ℕ, ◌+◌, ◌-◌, ◌≤◌, ◌<◌}
 use native.Mathlib.Omega.{arith}
 use mathlib.Core.Path.{◌≡◌, refl, sym, ap, ◌∙◌}
@@ -12,7 +13,7 @@ use lib.Ieee.{Float, nan}
 use lib.ListN.{length, get_or}
 use borrow.Author.Tests.{le-leb, lt-leb, leb-true, eqb-true, ne_eqb}
 use Rattle.model.specs.declared.A1Reference.{A1Reference}
-use Rattle.model.specs.declared.Axis.{Axis}
+use Rattle.model.specs.Options.{Axis}
 use Rattle.model.specs.declared.CellCoordinate.{CellCoordinate}
 use Rattle.model.specs.declared.ConditionalOperand.{ConditionalOperand as Operand}
 use Rattle.model.specs.declared.Range.{Range}
@@ -66,9 +67,9 @@ module _ (rows cols : List ℕ) (small : (k : ℕ) → get_or rows k 0 < 4_294_9
   entry_joined : (a b : Axis)
       → entry_at rows cols (record { row = axis_number a; col = axis_number b }) ≡ entry_referenced rows cols (joined a b)
   unfolding axis_number joined entry_referenced
-  entry_joined (Axis.At row) (Axis.At col) = refl
-  entry_joined (Axis.At row) Axis.Outside = entry_col_past rows cols row _ (λ k. omega (arith, narrow k))
-  entry_joined Axis.Outside b = entry_row_past rows cols _ _ small
+  entry_joined (Some row) (Some col) = refl
+  entry_joined (Some row) None = entry_col_past rows cols row _ (λ k. omega (arith, narrow k))
+  entry_joined None b = entry_row_past rows cols _ _ small
 
 -- the number of a cell that stands at a coordinate
 pub number_standing : (rows cols : List ℕ) (floats : List Float) → first_fall rows cols ≡ none → (at : CellCoordinate) (i : ℕ)
@@ -106,7 +107,7 @@ module _ (pool : List ℕ) (name : Span) (range : Range) (target : CellCoordinat
 -- ---- no cell of this sheet, and the target itself
 
 -- an offset of nothing
-same_axis : (at origin most : ℕ) → at ≤ most → axis false at origin origin most ≡ Axis.At at
+same_axis : (at origin most : ℕ) → at ≤ most → axis false at origin origin most ≡ Some at
 unfolding axis offset_axis
 same_axis at origin most h =
     let value : at + origin - origin ≡ at = omega arith in

@@ -1,4 +1,4 @@
--- Rows that rise are parted by halving: those above a row, and those not above it; two such parts make the band of a range. And the cells
+-- Rows are parted: those above a row, and those not above it; two such parts make the band of a range. And the cells
 -- in range are those from the band's begin up to its end whose columns are the range's: before it there is none, behind it none.
 -- Assumes nothing.
 use Prim.Native.Nat.{ℕ, zero, suc, ◌+◌, ◌-◌, ◌≤◌, ◌<◌}
@@ -6,7 +6,7 @@ use native.Mathlib.Nat.{add-zero, sub-zero, zero-add}
 use native.Mathlib.Numerals.{add-one}
 use native.Mathlib.Omega.{arith}
 use mathlib.Core.Path.{◌≡◌, refl, sym, ap, ◌∙◌}
-use mathlib.Core.Bool.{Bool, true, false}
+use mathlib.Core.Bool.{false}
 use mathlib.Core.List.{List, []}
 use mir.Val.{bool_byte}
 use lib.ListN.{length, get_or}
@@ -16,41 +16,10 @@ use Rattle.model.specs.Rule.{cells_in}
 use Rattle.cells.specs.Columns.{cells_of}
 use Rattle.ranges.proofs.Laws.{in_range_from, in_range_at, left_none, left_outside, Tally, tally_turn}
 use Rattle.hits.specs.Hits.{column_in}
-use Rattle.turns.specs.Bands.{RowsRise, BandOf}
+use Rattle.turns.specs.Bands.{BandOf}
 use Rattle.turns.proofs.Bands.{within_band, before_band, after_band}
 
--- ---- rows parted
-
--- the rows before `low` are above `row`, those from `high` on are not
-pub record RowsParted (rows : List ℕ) (row low high : ℕ) : Type 0 where
-  pub ordered : low ≤ high
-  pub within : high ≤ length rows
-  pub before : (i : ℕ) → i < low → get_or rows i 0 < row
-  pub after : (i : ℕ) → high ≤ i → i < length rows → row ≤ get_or rows i 0
-
-pub rows_begun : {rows : List ℕ} {row : ℕ} → RowsParted rows row 0 (length rows)
-rows_begun =
-    record { ordered = omega arith; within = omega arith; before = λ i h. absurd (omega arith); after = λ i a b. absurd (omega arith) }
-
-module _ (rows : List ℕ) (row : ℕ) (rise : RowsRise rows) {low high : ℕ} (v : RowsParted rows row low high) (middle : ℕ)
-    (h : middle < high) where
-  pub rows_up : get_or rows middle 0 < row → RowsParted rows row (middle + 1) high
-  rows_up e =
-      record {
-        ordered = omega arith;
-        within = v.within;
-        before = λ i a. omega (arith, rise i middle (omega arith) (omega (arith, v.within)));
-        after = v.after;
-      }
-
-  pub rows_down : low ≤ middle → row ≤ get_or rows middle 0 → RowsParted rows row low middle
-  rows_down l e =
-      record {
-        ordered = l;
-        within = omega (arith, v.within);
-        before = v.before;
-        after = λ i a b. omega (arith, rise middle i a b);
-      }
+-- ---- two parts of rows
 
 -- the rows before `r` are above `row`, those from there on are not
 abbrev FirstFrom : List ℕ → ℕ → ℕ → Type 0

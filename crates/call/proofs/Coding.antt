@@ -1,5 +1,6 @@
 -- Codes of keys: a cell in range has the code of another just when it has the same key, and code 0 just when it has none. So a code stands
 -- in range as often as its key, and code 0 as often as there are cells without one. Assumes nothing.
+use Rattle.std.specs.Prelude.{None}
 use Prim.Native.Nat.{ℕ, zero, suc, ◌+◌, ◌≤◌, ◌<◌, min}
 use native.Mathlib.Nat.{zero-add}
 use native.Mathlib.Omega.{arith}
@@ -8,7 +9,7 @@ use mathlib.Core.Bool.{Bool, true, false, not}
 use mathlib.Core.List.{List}
 use lib.Dec.{eqb, eqb-suc-zero}
 use lib.ListN.{length, get_or}
-use Rattle.model.specs.declared.ConditionalValueKey.{ConditionalValueKey as Key}
+use Rattle.model.specs.Options.{Key}
 use Rattle.model.specs.declared.Range.{Range}
 use Rattle.model.specs.Sheet.{CellColumns, cell_from, cells_from, in_range}
 use Rattle.model.specs.Readings.{conditional_value_key, same_key, has_key}
@@ -36,7 +37,7 @@ module _ (pool : List ℕ) (c : CellColumns) (codes : List ℕ) (coded : Coded p
   code_at i h =
       let whole : min (length c.rows) 1024 ≡ length c.rows = omega arith in
       rw (coded, whole)
-      (padded_at (name_of pool all) (name_none pool all Key.Nothing refl) all i
+      (padded_at (name_of pool all) (name_none pool all None refl) all i
       ∙ ap (name_of pool all) (held_at pool c (length c.rows) i h))
 
   pub code_none : (i : ℕ) → i < length c.rows → eqb (get_or codes i 0) 0 ≡ not (has_key (key i))

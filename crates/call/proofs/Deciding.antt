@@ -1,5 +1,9 @@
 -- What is decided of a rule up to its marks is the definition's step of the rule: a rule without outcomes, the hits that are found among
 -- the regions in its rows, none where all regions are stopped, and these by the plan of the rule. Assumes nothing.
+use Rattle.hits.proofs.Finding.{unresolved_at}
+use Rattle.std.specs.Option.{is_some}
+use Rattle.std.specs.Prelude.{Some, None, Ok, Err, MatchOption}
+use Rattle.std.specs.Result.{is_ok, is_err}
 use Prim.Native.Nat.{ℕ, zero, suc, ◌+◌, ◌-◌, ◌≤◌, ◌<◌}
 use native.Mathlib.Nat.{not-suc-le-zero}
 use native.Mathlib.Numerals.{add-one}
@@ -10,20 +14,16 @@ use mathlib.Core.List.{List, [], ◌∷◌, ◌++◌, append_assoc}
 use lib.Ieee.{Float}
 use lib.ListN.{length, get_or, take, replicate}
 use lib.Seq.{take_at, get_or-take}
-use types.Run.{OneOf}
-use denote.Enum.Declared.{tag_of}
 use Rattle.memory.specs.Memory.{page_of}
 use Rattle.memory.proofs.Laws.{page_fits}
-use Rattle.charging.specs.contracts.Charged.{the_type}
-use Rattle.charging.specs.declared.Charged.{Charged}
 use Rattle.charging.specs.declared.Counter.{Counter}
-use Rattle.charging.specs.Charge.{one, and_then, spend}
+use Rattle.charging.specs.Charge.{Charged, one, and_then, spend}
 use Rattle.model.specs.declared.CellCoordinate.{CellCoordinate}
 use Rattle.model.specs.declared.CfRule.{CfRule}
 use Rattle.model.specs.declared.Outcome.{Outcome}
 use Rattle.model.specs.declared.Plan.{Plan}
 use Rattle.model.specs.declared.Range.{Range}
-use Rattle.model.specs.declared.Reading.{Reading}
+use Rattle.model.specs.Options.{Reading}
 use Rattle.model.specs.declared.Rgb.{Rgb}
 use Rattle.model.specs.declared.Rule.{Rule}
 use Rattle.model.specs.declared.Span.{Span}
@@ -42,14 +42,13 @@ use Rattle.plans.specs.Plans.{plan_of_values, is_bar_test, tests_bar}
 use Rattle.plans.proofs.Laws.{plan_inverted, plan_upright}
 use Rattle.hits.specs.declared.Found.{Found}
 use Rattle.hits.specs.Verdict.{first_operand, second_operand}
-use Rattle.hits.specs.Hits.{Known, known, first_at, second_at, outcomes_by, hits_from, hits_of, unresolved_from, fits_hits, found_in, live_from}
+use Rattle.hits.specs.Hits.{Known, known, first_at, second_at, outcomes_by, hits_from, hits_of, unresolved_from, fits_hits, found_among, live_from}
 use Rattle.turns.specs.Step.{outcomes_from, Judged, judged_as, judged_of, judged_in}
 use Rattle.turns.specs.Step.{Step, ahead_of_regions, said_step, step_from, step_of}
 use Rattle.turns.specs.Knowing.{takes_first, takes_second, counts_keys, InRange, Knows}
 use Rattle.turns.specs.Bands.{BandOf}
 use Rattle.turns.specs.Emit.{Paints}
-use Rattle.turns.proofs.Charges.{refusals}
-use Rattle.turns.proofs.Stepping.{said_refused, from_refused, step_by_parts}
+use Rattle.turns.proofs.Stepping.{step_by_parts}
 use Rattle.turns.proofs.Painted.{whole_paints, none_paint}
 use Rattle.turns.proofs.Hits.{hits_few, hits_within}
 use Rattle.turns.proofs.Asked.{first_most}
@@ -66,63 +65,58 @@ pub decides_same : (imported : Bool) (values : List Float) (hits : List ℕ) (d 
     → Decides x imported values hits d → Decides y imported values hits d
 decides_same imported values hits d x y e h = rw (← e) h
 
--- without outcomes
-module _ (limit : ℕ) (unresolved imported : Bool) (values : List Float) (hits : List ℕ) (test : Test) (charged : Charged)
-    (deferred : ℕ) where
-  abbrev Untested : Type 0
-  Untested =
-      Decides (step_from limit false (judged_as [] 0 unresolved) charged) imported values hits
-      (record { charged = charged; test = test; count = 0; deferred = deferred; simplified = 0 })
+-- without outcomes: to charge no region leaves the charges as they are
+pub untested_decides : (limit : ℕ) (unresolved imported : Bool) (values : List Float) (hits : List ℕ) (test : Test) (charged : Charged)
+    → Decides (step_from limit false (judged_as [] 0 unresolved) charged) imported values hits
+    (record { charged = charged; test = test; count = 0; deferred = is_ok charged && unresolved; simplified = false })
+unfolding said_step and_then spend hits_from
+untested_decides limit unresolved imported values hits test (Ok c) =
+    record {
+      charged = refl;
+      deferred = refl;
+      simplified = refl;
+      count = refl;
+      painted = refl;
+      paints = none_paint test imported values;
+    }
+untested_decides limit unresolved imported values hits test (Err e) =
+    record {
+      charged = refl;
+      deferred = refl;
+      simplified = refl;
+      count = refl;
+      painted = refl;
+      paints = none_paint test imported values;
+    }
 
-  -- to charge no region leaves the charges as they are
-  pub untested_within : (c : Counter) → charged ≡ Charged.Within c → deferred ≡ cond unresolved 1 0 → Untested
-  unfolding said_step and_then spend hits_from
-  untested_within c e d =
-      rw (e, d)
-      (record {
-        charged = refl;
-        deferred = refl;
-        simplified = refl;
-        count = refl;
-        painted = refl;
-        paints = none_paint test imported values;
-      })
+-- by what the charges come to with those of the regions
+module _ (limit : ℕ) (test : Test) (os : List Outcome) (asked : ℕ) (unresolved imported : Bool) (values : List Float) (hits : List ℕ)
+    (charged all : Charged) (is : all ≡ and_then charged (λ c. spend limit c (replicate asked one))) where
+  abbrev DecidesFound : Decided → Type 0
+  DecidesFound d = Decides (step_from limit (is_bar_test test) (judged_as os asked unresolved) charged) imported values hits d
 
-  pub untested_refused : OneOf refusals (tag_of the_type charged) → deferred ≡ 0 → Untested
-  unfolding hits_from
-  untested_refused h d =
-      decides_same imported values hits _ _ _ (from_refused false (judged_as [] 0 unresolved) limit charged h)
-      (record {
-        charged = refl;
-        deferred = d;
-        simplified = refl;
-        count = refl;
-        painted = refl;
-        paints = none_paint test imported values;
-      })
-
--- once a charge is refused, what is judged does not count
-module _ (limit : ℕ) (bar other : Bool) (j k : Judged) where
-  pub refused_alike : (x : Charged) → OneOf refusals (tag_of the_type x) → step_from limit bar j x ≡ step_from limit other k x
-  refused_alike x h = sym (from_refused bar j limit x h) ∙ from_refused other k limit x h
-
-  -- of the regions
-  pub refused_among : (n : Counter) (x : Charged) → x ≡ spend limit n.count (replicate k.asked one)
-      → OneOf refusals (tag_of the_type x) → step_from limit bar j x ≡ step_from limit other k (Charged.Within n)
-  unfolding and_then
-  refused_among n x is h = sym (from_refused bar j limit x h) ∙ said_refused other k x h ∙ ap (said_step other k) is
-
--- the charges of the regions are accepted
-module _ (limit : ℕ) (test : Test) (os : List Outcome) (asked : ℕ) (unresolved imported : Bool) (values : List Float) (hits : List ℕ) where
-  pub accepted_decides : (n : Counter) (x : Charged) (c : Counter) → x ≡ spend limit n.count (replicate asked one)
-      → x ≡ Charged.Within c → (count : ℕ) → count ≡ length (hits_from 0 os) → take count hits ≡ hits_from 0 os
-      → Paints test imported values os
-      → Decides (step_from limit (is_bar_test test) (judged_as os asked unresolved) (Charged.Within n)) imported values hits
-      (record { charged = x; test = test; count = count; deferred = cond unresolved 1 0; simplified = cond (is_bar_test test) 1 0 })
+  -- once a charge is refused, what is judged does not count
+  pub refused_decides : is_err all ≡ true → (d : Decided) → Decides (step_from limit false (judged_as [] 0 false) all) imported values hits d
+      → DecidesFound d
   unfolding said_step and_then
-  accepted_decides n x c is within count counted front paints =
-      rw (← is, within)
-      (record { charged = refl; deferred = refl; simplified = refl; count = counted; painted = front; paints = paints })
+  refused_decides h d told = decides_same imported values hits d _ _ (go all h ∙ ap (said_step (is_bar_test test) (judged_as os asked unresolved)) is) told
+    where
+      go : (x : Charged) → is_err x ≡ true → step_from limit false (judged_as [] 0 false) x
+          ≡ said_step (is_bar_test test) (judged_as os asked unresolved) x
+      go (Ok c) h = absurd (false≢true h)
+      go (Err e) h = refl
+
+  pub accepted_decides : is_err all ≡ false → (count : ℕ) → count ≡ length (hits_from 0 os) → take count hits ≡ hits_from 0 os
+      → Paints test imported values os
+      → DecidesFound (record { charged = all; test = test; count = count; deferred = unresolved; simplified = is_bar_test test })
+  unfolding said_step
+  accepted_decides h count counted front paints =
+      decides_same imported values hits _ _ _ (ap (said_step (is_bar_test test) (judged_as os asked unresolved)) is) (go all h)
+    where
+      go : (x : Charged) → is_err x ≡ false → Decides (said_step (is_bar_test test) (judged_as os asked unresolved) x) imported values hits
+          (record { charged = x; test = test; count = count; deferred = unresolved; simplified = is_bar_test test })
+      go (Ok c) h = record { charged = refl; deferred = refl; simplified = refl; count = counted; painted = front; paints = paints }
+      go (Err e) h = absurd (false≢true (sym h))
 
 -- ---- a plan that counts keys is that of duplicates
 
@@ -133,8 +127,8 @@ counts (Plan.Tested t) = counts_keys t
 
 against_counts : (below : Bool) (fill : Rgb) (m : Reading) → counts (against below fill m) ≡ false
 unfolding against counts_keys
-against_counts below fill (Reading.Number x) = refl
-against_counts below fill Reading.Nothing = refl
+against_counts below fill (Some x) = refl
+against_counts below fill None = refl
 
 values_count : (k : CfRule) (xs : List Float) → counts (plan_of_values k xs) ≡ false
 unfolding counts_keys plan_of_values scale2 scale3 bar rank mean
@@ -237,41 +231,38 @@ module _ (i : ℕ) (os : List Outcome) where
 -- ---- what is found of the regions in the rows of a rule
 
 -- by tables that fit
-module _ (k : Known) (range : Range) (t : Test) (imported : Bool) (cols flags : List ℕ) (from to : ℕ) (f : Found) (fits : Bool)
-    (fit : fits ≡ true) (is : f ≡ found_in fits from (outcomes_by k range t imported cols flags from (to - from))) where
+module _ (k : Known) (range : Range) (t : Test) (imported : Bool) (cols flags : List ℕ) (from to : ℕ) (f : Found)
+    (is : f ≡ found_among from (outcomes_by k range t imported cols flags from (to - from))) where
   abbrev outcomes : List Outcome
   outcomes = outcomes_by k range t imported cols flags from (to - from)
 
   outcomes_many : length outcomes ≡ to - from
   outcomes_many = by_long k range t imported cols flags from (to - from)
 
-  found_unresolved : f.unresolved ≡ is_unresolved outcomes
-  unfolding found_in
-  found_unresolved = ap (λ (x : Found). x.unresolved) (rw fit at is)
-
-  found_at : f.at ≡ unresolved_from from outcomes
-  unfolding found_in
-  found_at = ap (λ (x : Found). x.at) (rw fit at is)
+  found_unresolved : f.unresolved ≡ cond (is_unresolved outcomes) (Some (unresolved_from from outcomes)) None
+  unfolding found_among
+  found_unresolved = ap (λ (x : Found). x.unresolved) is
 
   found_count : f.count ≡ length (hits_of from outcomes)
-  unfolding found_in
-  found_count = ap (λ (x : Found). x.count) (rw fit at is)
+  unfolding found_among
+  found_count = ap (λ (x : Found). x.count) is
 
   -- the region that leaves the test unresolved is one of them
-  pub found_within : from ≤ to → f.unresolved ≡ true → f.at < to
-  found_within ordered some =
-      omega (arith, ordered, found_at, first_most from outcomes (sym found_unresolved ∙ some), outcomes_many)
+  pub found_within : from ≤ to → (at : ℕ) → f.unresolved ≡ Some at → at < to
+  found_within ordered at some =
+      let u = unresolved_at from outcomes is some in
+      omega (arith, ordered, u.1, first_most from outcomes u.0, outcomes_many)
 
   pub found_few : f.count ≤ to - from
   found_few = omega (arith, found_count, hits_of_few from outcomes, outcomes_many)
 
   -- the hits are at the front of a table
-  module _ (room : ℕ) (large : to - from ≤ room) (page rest : List ℕ) (held : page ≡ page_of fits room (hits_of from outcomes)) where
+  module _ (room : ℕ) (large : to - from ≤ room) (page rest : List ℕ) (held : page ≡ page_of true room (hits_of from outcomes)) where
     pub found_front : take f.count (page ++ rest) ≡ hits_of from outcomes
     found_front =
         let xs = hits_of from outcomes in
         ap (λ (l : List ℕ). take f.count (l ++ rest))
-        ((rw fit at held) ∙ page_fits 0 room xs (omega (arith, found_count, found_few, large)))
+        (held ∙ page_fits 0 room xs (omega (arith, found_count, found_few, large)))
         ∙ ap (take f.count) (append_assoc xs (replicate (room - length xs) 0) rest)
         ∙ take_at xs (replicate (room - length xs) 0 ++ rest) f.count (sym found_count)
 
@@ -303,34 +294,44 @@ module _ (s : Sheet) (r : Rule) (t : Test) (rows cols flags : List ℕ) (k : Kno
       go true e = rw add-one (sym (band_asked_first s r t rows cols flags k knows band e))
       go false e = all ∙ sym (band_asked s r t rows cols flags k knows band e)
 
-  module _ (f : Found) (fits : Bool) (fit : fits ≡ true) (is : f ≡ found_in fits from mid) where
+  -- whether a test is unresolved, and how many regions are charged then
+  some_when : (b : Bool) (u : ℕ) → is_some (cond b (Some u) None) ≡ b
+  some_when true u = refl
+  some_when false u = refl
+
+  asked_when : (b : Bool) (u n alive : ℕ) → MatchOption (cond b (Some u) None) (n ≡ alive) (λ at. n ≡ live_from flags 0 (at + 1))
+      → n ≡ cond b (live_from flags 0 (u + 1)) alive
+  asked_when true u n alive h = h
+  asked_when false u n alive h = h
+
+  module _ (f : Found) (is : f ≡ found_among from mid) where
     pub found_decides : (alive n : ℕ) → alive ≡ live_from flags 0 (length rows)
-        → n ≡ cond f.unresolved (live_from flags 0 (f.at + 1)) alive → (hits : List ℕ) → take f.count hits ≡ hits_of from mid
+        → MatchOption f.unresolved (n ≡ alive) (λ at. n ≡ live_from flags 0 (at + 1)) → (hits : List ℕ) → take f.count hits ≡ hits_of from mid
         → (limit : ℕ) (spent : Charged) (d : Decided)
         → ((os : List Outcome) → f.count ≡ length (hits_from 0 os) → take f.count hits ≡ hits_from 0 os
         → Paints t r.imported k.values os
-        → Decides (step_from limit (is_bar_test t) (judged_as os n f.unresolved) spent) r.imported k.values hits d)
+        → Decides (step_from limit (is_bar_test t) (judged_as os n (is_some f.unresolved)) spent) r.imported k.values hits d)
         → Decides (step_from limit (is_bar_test t) (judged_of whole) spent) r.imported k.values hits d
     found_decides alive n all charged hits front limit spent d told =
-        let unresolved = found_unresolved k r.range t r.imported cols flags from to f fits fit is in
-        let count = found_count k r.range t r.imported cols flags from to f fits fit is in
-        let at = found_at k r.range t r.imported cols flags from to f fits fit is in
+        let unresolved = found_unresolved k r.range t r.imported cols flags from to f is in
+        let count = found_count k r.range t r.imported cols flags from to f is in
+        let first = unresolved_from from mid in
         let painted = band_painted s r t rows cols flags k knows band in
-        let regions : n ≡ asked whole = (rw (unresolved, at) at charged) ∙ all_asked alive all in
+        let regions : n ≡ asked whole = asked_when (is_unresolved mid) first n alive (rw unresolved at charged) ∙ all_asked alive all in
         decides_same r.imported k.values hits d _ _
         (ap (λ (j : Judged). step_from limit (is_bar_test t) j spent)
-        ((rw unresolved) ∙ band_judged s r t rows cols flags k knows band n regions))
+        ((rw (unresolved, some_when (is_unresolved mid) first)) ∙ band_judged s r t rows cols flags k knows band n regions))
         (told (cond (is_unresolved mid) [] whole) (count ∙ ap length painted) (front ∙ painted) (counting_paint (is_unresolved mid)))
 
 -- ---- all regions are stopped
 
 -- nothing is found, as no region is looked at
 module _ (s : Sheet) (r : Rule) (t : Test) (rows cols flags : List ℕ) (none : live_from flags 0 (length rows) ≡ 0) (f : Found)
-    (is : f ≡ record { fits = true; unresolved = false; at = 0; count = 0 }) where
+    (is : f ≡ record { unresolved = None; count = 0 }) where
   pub stopped_decides : (values : List Float) (hits : List ℕ) (limit : ℕ) (spent : Charged) (d : Decided)
       → ((os : List Outcome) → f.count ≡ length (hits_from 0 os) → take f.count hits ≡ hits_from 0 os
       → Paints t r.imported values os
-      → Decides (step_from limit (is_bar_test t) (judged_as os 0 f.unresolved) spent) r.imported values hits d)
+      → Decides (step_from limit (is_bar_test t) (judged_as os 0 (is_some f.unresolved)) spent) r.imported values hits d)
       → Decides (step_from limit (is_bar_test t) (judged_of (outcomes_from s r t rows cols flags 0 (length rows))) spent) r.imported values
       hits d
   stopped_decides values hits limit spent d told =
@@ -344,7 +345,7 @@ module _ (s : Sheet) (r : Rule) (t : Test) (rows cols flags : List ℕ) (none : 
 -- ---- by the plan
 
 module _ (s : Sheet) (r : Rule) (limit : ℕ) (rows cols flags : List ℕ) (charged spent : Charged)
-    (ahead : spent ≡ ahead_of_regions s r limit charged) (p : Plan) (planned : (c : Counter) → spent ≡ Charged.Within c → p ≡ plan s r)
+    (ahead : spent ≡ ahead_of_regions s r limit charged) (p : Plan) (planned : (c : Counter) → spent ≡ Ok c → p ≡ plan s r)
     (values : List Float) (hits : List ℕ) (d : Decided) where
   abbrev DecidesBy : Step → Type 0
   DecidesBy x = Decides x r.imported values hits d

@@ -1,6 +1,7 @@
 -- The loop that gathers numbers: each float of the band is stored behind those kept so far, and stays there only if the cell is in range
 -- and the float is a number, which is where the cell has one. And where each cell of the band is in range and all floats are numbers, the
 -- numbers in range are the band's floats. Assumes nothing.
+use Rattle.std.specs.Prelude.{Some, None}
 use Prim.Native.Nat.{ℕ, zero, suc, ◌+◌, ◌-◌, ◌≤◌, ◌<◌}
 use native.Mathlib.Nat.{add-zero, zero-add}
 use native.Mathlib.Numerals.{add-one, one-add}
@@ -13,7 +14,6 @@ use lib.Ieee.{Float, nan, eq}
 use lib.ListN.{length, get_or, take, drop, set, length-drop}
 use lib.Seq.{take-suc-set, take-set-le, drop-cons, get_or-take, get_or-drop, length-take-le}
 use Rattle.model.specs.declared.Range.{Range}
-use Rattle.model.specs.declared.Reading.{Reading}
 use Rattle.model.specs.Sheet.{CellColumns, cell_from}
 use Rattle.model.specs.Readings.{numeric_cell_value}
 use Rattle.model.specs.Rule.{cells_in, with_number, numbers}
@@ -36,7 +36,7 @@ with_float : (x : Float) (later : List Float) → with_number (reading_of x) lat
 unfolding reading_of
 with_float x later = go (eq x x)
   where
-    go : (b : Bool) → with_number (cond b (Reading.Number x) Reading.Nothing) later ≡ ahead b x later
+    go : (b : Bool) → with_number (cond b (Some x) None) later ≡ ahead b x later
     go true = refl
     go false = refl
 

@@ -1,5 +1,7 @@
 -- The list of the regions in range, one region a turn; the way back from places of it to the regions; and what is found in the columns that
 -- are picked by it, told of the regions. Assumes nothing.
+use Rattle.std.specs.Prelude.{Some, None}
+use Rattle.hits.proofs.Finding.{fit_found}
 use Prim.Native.Nat.{ℕ, suc, ◌+◌, ◌-◌, ◌≤◌, ◌<◌, min}
 use native.Mathlib.Nat.{zero-add}
 use native.Mathlib.Numerals.{add-one}
@@ -16,7 +18,7 @@ use Rattle.model.specs.declared.Outcome.{Outcome}
 use Rattle.model.specs.declared.Range.{Range}
 use Rattle.model.specs.declared.Test.{Test}
 use Rattle.hits.specs.declared.Found.{Found}
-use Rattle.hits.specs.Hits.{Known, column_in, outcome_by, outcomes_by, hits_of, found_in}
+use Rattle.hits.specs.Hits.{Known, column_in, outcome_by, outcomes_by, hits_of, found_among, found_in}
 use Rattle.turns.specs.Knowing.{counts_keys}
 use Rattle.call.specs.Tables.{inside_from, looks_at_operands}
 use Rattle.call.proofs.Jumping.{inside_skips}
@@ -128,13 +130,12 @@ module _ (k' k : Known) (range : Range) (t : Test) (cols' flags' cols flags : Li
 
   -- what is found in the short columns, and the page of hits, told of the regions
   pub record Back (list : List ℕ) : Type 0 where
-    pub at_within : f.unresolved ≡ true → f.at < length list
+    pub at_within : (at : ℕ) → f.unresolved ≡ Some at → at < length list
     pub few : f.count ≤ length list
     pub below : (i : ℕ) → i < f.count → get_or page i 0 < length list
-    pub unresolved : f.unresolved ≡ true → (imported : Bool)
-        → record { fits = true; unresolved = true; at = get_or list f.at 0; count = 0 } ≡ found_in true from (longs imported)
-    pub resolved : f.unresolved ≡ false → (imported : Bool)
-        → record { fits = true; unresolved = false; at = to; count = f.count } ≡ found_in true from (longs imported)
+    pub unresolved : (at : ℕ) → f.unresolved ≡ Some at → (imported : Bool)
+        → record { unresolved = Some (get_or list at 0); count = 0 } ≡ found_among from (longs imported)
+    pub resolved : f.unresolved ≡ None → (imported : Bool) → f ≡ found_among from (longs imported)
     pub hits : (imported : Bool) → map (λ h. get_or list h 0) (take f.count page) ≡ hits_of from (longs imported)
 
   module _ (ordered : from ≤ to) (room : ℕ) where
@@ -148,23 +149,22 @@ module _ (k' k : Known) (range : Range) (t : Test) (cols' flags' cols flags : Li
         (λ e. p.first e j h) (λ e. p.second e j h) (λ e. p.found e j h) (p.col j h) (p.flag j h)
 
     back : PickedBy t ps k' k cols' flags' cols flags → length ps ≤ room
-        → ((imported : Bool) → f ≡ found_in true 0 (shorts imported (length ps)))
+        → ((imported : Bool) → f ≡ found_among 0 (shorts imported (length ps)))
         → ((imported : Bool) → page ≡ page_of true room (hits_of 0 (shorts imported (length ps)))) → Back ps
     back p small is held =
         let n = to - from in
         let count : f.count ≤ length ps =
         picked_few k' k range t false cols' flags' cols flags from n (said p false) f (is false) in
         let large : f.count ≤ room = omega arith in
-        let end : from + n ≡ to = omega arith in
         record {
           at_within = picked_at_within k' k range t false cols' flags' cols flags from n (said p false) f (is false);
           few = count;
           below = front_below k' k range t false cols' flags' cols flags from n (said p false) f (is false) page
               (page_front k' k range t false cols' flags' cols flags from n (said p false) f (is false) room large page (held false));
-          unresolved = λ some imported.
-              found_picked_unresolved k' k range t imported cols' flags' cols flags from n (said p imported) f (is imported) some;
+          unresolved = λ at some imported.
+              found_picked_unresolved k' k range t imported cols' flags' cols flags from n (said p imported) f (is imported) at some;
           resolved = λ none imported.
-              rw end at (found_picked_resolved k' k range t imported cols' flags' cols flags from n (said p imported) f (is imported) none);
+              found_picked_resolved k' k range t imported cols' flags' cols flags from n (said p imported) f (is imported) none;
           hits = λ imported.
               page_picked k' k range t imported cols' flags' cols flags from n (said p imported) f (is imported) room large page
               (held imported);
@@ -172,12 +172,12 @@ module _ (k' k : Known) (range : Range) (t : Test) (cols' flags' cols flags : Li
 
     pub told_back : {list : List ℕ} → list ≡ ps → PickedBy t list k' k cols' flags' cols flags → length list ≤ room → (n : ℕ)
         → n ≡ length list → (fitted : Bool) → fitted ≡ true
-        → ((imported : Bool) → f ≡ found_in fitted 0 (shorts imported n))
+        → ((imported : Bool) → Some f ≡ found_in fitted 0 (shorts imported n))
         → ((imported : Bool) → page ≡ page_of fitted room (hits_of 0 (shorts imported n))) → Back list
     told_back {list} listed p small n long fitted fits is held =
-        go listed p small (rw (fits, long) at is) (rw (fits, long) at held)
+        go listed p small (λ imported. fit_found 0 (shorts imported (length list)) fits (rw long at (is imported))) (rw (fits, long) at held)
       where
         go : list ≡ ps → PickedBy t list k' k cols' flags' cols flags → length list ≤ room
-            → ((imported : Bool) → f ≡ found_in true 0 (shorts imported (length list)))
+            → ((imported : Bool) → f ≡ found_among 0 (shorts imported (length list)))
             → ((imported : Bool) → page ≡ page_of true room (hits_of 0 (shorts imported (length list)))) → Back list
         go e = rw e back

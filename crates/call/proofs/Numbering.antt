@@ -1,12 +1,12 @@
 -- The number of a cell as a float, told from the entries of its columns: by the kind, the wraps and the exponent's field of the bits.
 -- Assumes nothing.
+use Rattle.std.specs.Prelude.{Some, None}
 use Prim.Native.Nat.{ℕ, zero, suc, ◌+◌, ◌/◌, ◌%◌}
 use mathlib.Core.Path.{◌≡◌, refl, sym, ap, ◌∙◌}
 use mathlib.Core.Bool.{Bool, true, false, cond, not, ◌&&◌, ◌||◌, false≢true}
 use lib.Dec.{T, leb, eqb}
 use lib.Ieee.{Float, nan, inf, binary64, prec, low, odd, hid, top, of_fields, of_bits, nan_bits}
 use Rattle.model.specs.declared.CellValue.{CellValue}
-use Rattle.model.specs.declared.Reading.{Reading}
 use Rattle.model.specs.declared.Span.{Span}
 use Rattle.model.specs.Sheet.{value_of}
 use Rattle.model.specs.Readings.{finite, numeric_value, numeric_cell_value}
@@ -41,7 +41,7 @@ bits_finite bits = of_fields_finite (leb (top binary64) bits) (exponent bits) (b
 
 -- ---- the number of a cell
 
-counted : (b : Bool) (x : Float) → as_float (cond b (Reading.Number x) Reading.Nothing) ≡ cond b x nan
+counted : (b : Bool) (x : Float) → as_float (cond b (Some x) None) ≡ cond b x nan
 unfolding as_float
 counted true x = refl
 counted false x = refl
@@ -51,7 +51,7 @@ by_kind : (one two three four w b : Bool) (x : Float) (t : Span)
     (numeric_value
     (cond one (CellValue.Number x)
     (cond two (CellValue.Date x) (cond three (CellValue.Text t) (cond four (CellValue.Bool b) CellValue.Error)))))
-    Reading.Nothing)
+    None)
     ≡ cond (((one || two) && w) && finite x) x nan
 unfolding numeric_value as_float
 by_kind true two three four true b x t = counted (finite x) x

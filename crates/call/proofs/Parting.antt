@@ -1,16 +1,13 @@
 -- Told apart: a rule that takes values counts no keys, either asks for the cells in range, a deferred plan is not tested, and charges that
 -- are not refused are accepted. Assumes nothing.
+use Rattle.std.specs.Prelude.{Ok, Err}
+use Rattle.std.specs.Result.{MatchResult, is_err}
 use Prim.Native.Nat.{ℕ}
 use native.Mathlib.Omega.{arith}
-use mathlib.Core.Path.{◌≡◌, refl}
+use mathlib.Core.Path.{◌≡◌, refl, sym}
 use mathlib.Core.Bool.{Bool, true, false, ◌||◌, false≢true}
-use mathlib.Core.List.{[], ◌∷◌}
-use types.Run.{OneOf, miss}
-use denote.Enum.Declared.{tag_of}
-use Rattle.charging.specs.contracts.Charged as Charged-type
-use Rattle.charging.specs.declared.Charged.{Charged}
 use Rattle.charging.specs.declared.Counter.{Counter}
-use Rattle.charging.specs.Charge.{and_then}
+use Rattle.charging.specs.Charge.{Charged, and_then}
 use Rattle.model.specs.declared.CfRule.{CfRule}
 use Rattle.model.specs.declared.Plan.{Plan}
 use Rattle.model.specs.declared.Test.{Test}
@@ -44,16 +41,25 @@ duplicates_ask k h = rw h (or_true (takes_values k))
 pub untested : (test : Test) → Plan.Deferred ≡ Plan.Tested test → ⊥
 untested test e = let no : ◌≡◌ {A = ℕ} 0 1 = cc in omega arith
 
--- `Within` is the first of `Charged`
-pub accepted : (r : Charged) → OneOf (0 ∷ []) (tag_of Charged-type.the_type r) → (counter : Counter) × (r ≡ Charged.Within counter)
-accepted (Charged.Within counter) h = (counter, refl)
-accepted (Charged.LimitExceeded counter actual) h = absurd (miss (0 ∷ []) 1 tt h)
-accepted (Charged.CoordinateOverflow counter) h = absurd (miss (0 ∷ []) 2 tt h)
+-- charges that are not refused are accepted
+pub accepted : (r : Charged) → is_err r ≡ false → (counter : Counter) × (r ≡ Ok counter)
+accepted (Ok counter) h = (counter, refl)
+accepted (Err e) h = absurd (false≢true (sym h))
+
+pub refused : (r : Charged) → is_err r ≡ true → (counter : Counter) → r ≡ Ok counter → ⊥
+refused (Ok n) h counter e = false≢true h
+refused (Err n) h counter e = let no : ◌≡◌ {A = ℕ} 0 1 = cc in omega arith
 
 -- what is accepted after other charges is so only if these were
-pub accepted_before : (r : Charged) (next : ℕ → Charged) (counter : Counter) → and_then r next ≡ Charged.Within counter
-    → (first : Counter) × (r ≡ Charged.Within first)
+pub accepted_before : (r : Charged) (next : ℕ → Charged) (counter : Counter) → and_then r next ≡ Ok counter
+    → (first : Counter) × (r ≡ Ok first)
 unfolding and_then
-accepted_before (Charged.Within first) next counter e = (first, refl)
-accepted_before (Charged.LimitExceeded first actual) next counter e = let no : ◌≡◌ {A = ℕ} 0 1 = cc in absurd (omega arith)
-accepted_before (Charged.CoordinateOverflow first) next counter e = let no : ◌≡◌ {A = ℕ} 0 1 = cc in absurd (omega arith)
+accepted_before (Ok first) next counter e = (first, refl)
+accepted_before (Err error) next counter e = let no : ◌≡◌ {A = ℕ} 0 1 = cc in absurd (omega arith)
+
+-- charges that go on from those that are accepted
+pub told_then : (r x : Charged) (post : Counter → Type 0) (next : ℕ → Charged) → MatchResult r post (λ e. x ≡ Err e)
+    → ((n : Counter) → r ≡ Ok n → post n → x ≡ next n.count) → x ≡ and_then r next
+unfolding and_then
+told_then (Ok n) x post next h k = k n refl h
+told_then (Err e) x post next h k = h

@@ -1,6 +1,7 @@
 -- The regions whose column is the range's say all that a test says of the regions in its rows: the others are only passed over or stopped.
 -- So what is found among these alone, picked into columns of their own, is found among all, each picked region at its own index.
 -- Assumes nothing.
+use Rattle.std.specs.Prelude.{Some, None}
 use Prim.Native.Nat.{ℕ, zero, suc, ◌+◌, ◌-◌, ◌≤◌, ◌<◌}
 use native.Mathlib.Nat.{not-suc-le-zero, add-zero, zero-add}
 use native.Mathlib.Omega.{arith}
@@ -15,14 +16,14 @@ use Rattle.memory.specs.Memory.{page_of}
 use Rattle.memory.proofs.Laws.{page_fits}
 use Rattle.model.specs.declared.Outcome.{Outcome}
 use Rattle.model.specs.declared.Range.{Range}
-use Rattle.model.specs.declared.Reading.{Reading}
+use Rattle.model.specs.Options.{Reading}
 use Rattle.model.specs.declared.Test.{Test}
 use Rattle.model.specs.Run.{is_unresolved}
 use Rattle.hits.specs.declared.Found.{Found}
 use Rattle.hits.specs.Hits.{Known, by_literals, number_at, verdict_by, column_in, outcome_by, outcomes_by, hits_from, hits_of}
-use Rattle.hits.specs.Hits.{unresolved_from, found_in}
+use Rattle.hits.specs.Hits.{unresolved_from, found_among}
 use Rattle.hits.proofs.Hitting.{outcomes_long}
-use Rattle.hits.proofs.Finding.{found_unresolved, found_resolved, hits_resolved}
+use Rattle.hits.proofs.Finding.{found_unresolved, found_resolved, hits_resolved, unresolved_at, all_resolved}
 use Rattle.turns.specs.Knowing.{takes_first, takes_second, counts_keys}
 use Rattle.turns.proofs.Known.{verdict_needs}
 use Rattle.turns.proofs.Hits.{hits_few, hits_within}
@@ -144,14 +145,8 @@ module _ (ps : List ℕ) where
   picks_hits (same Outcome.Unresolved e later) = picks_hits later
   picks_hits (same (Outcome.Painted p) e later) = rw (e, picks_hits later)
 
--- past the last where none is unresolved
-none_first : (i : ℕ) (os : List Outcome) → is_unresolved os ≡ false → unresolved_from i os ≡ i + length os
-unfolding is_unresolved unresolved_from
-none_first i [] none = sym (add-zero i)
-none_first i (Outcome.Stopped ∷ os) none = omega (arith, none_first (suc i) os none)
-none_first i (Outcome.Passed ∷ os) none = omega (arith, none_first (suc i) os none)
-none_first i (Outcome.Unresolved ∷ os) none = cc
-none_first i (Outcome.Painted p ∷ os) none = omega (arith, none_first (suc i) os none)
+record_of : (f : Found) → f.unresolved ≡ None → f ≡ record { unresolved = None; count = f.count }
+record_of f none = λ i. record { unresolved = none i; count = f.count }
 
 -- the hits that count
 module _ (i : ℕ) (os : List Outcome) where
@@ -247,10 +242,6 @@ module _ (k' k : Known) (range : Range) (t : Test) (imported : Bool) (cols' flag
     pub picked_first_within : is_unresolved qs ≡ true → unresolved_from 0 qs < length ps
     picked_first_within some = omega (arith, first_most 0 qs some, shorts_long)
 
-    pub picked_none : is_unresolved qs ≡ false → unresolved_from from os ≡ from + n
-    picked_none none =
-        none_first from os (picked_unresolved ∙ none) ∙ ap (λ m. from + m) (outcomes_long k range t imported cols flags from n)
-
     pub picked_hits : hits_from from os ≡ map (λ h. get_or ps h 0) (hits_from 0 qs)
     picked_hits = picks_hits ps all_picked
 
@@ -263,36 +254,27 @@ module _ (k' k : Known) (range : Range) (t : Test) (imported : Bool) (cols' flag
         go false = refl
 
     -- what is found in these columns
-    module _ (f : Found) (is : f ≡ found_in true 0 qs) where
-      short_unresolved : f.unresolved ≡ is_unresolved qs
-      unfolding found_in
-      short_unresolved = ap (λ (x : Found). x.unresolved) is
-
-      short_at_lem : f.at ≡ unresolved_from 0 qs
-      unfolding found_in
-      short_at_lem = ap (λ (x : Found). x.at) is
-
+    module _ (f : Found) (is : f ≡ found_among 0 qs) where
       short_count : f.count ≡ length (hits_of 0 qs)
-      unfolding found_in
+      unfolding found_among
       short_count = ap (λ (x : Found). x.count) is
 
-      pub picked_at_within : f.unresolved ≡ true → f.at < length ps
-      picked_at_within some = omega (arith, short_at_lem, picked_first_within (sym short_unresolved ∙ some))
+      pub picked_at_within : (at : ℕ) → f.unresolved ≡ Some at → at < length ps
+      picked_at_within at some = let u = unresolved_at 0 qs is some in omega (arith, u.1, picked_first_within u.0)
 
       pub picked_few : f.count ≤ length ps
       picked_few = omega (arith, short_count, hits_of_few 0 qs, shorts_long)
 
-      pub found_picked_unresolved : f.unresolved ≡ true
-          → record { fits = true; unresolved = true; at = get_or ps f.at 0; count = 0 } ≡ found_in true from os
-      found_picked_unresolved some =
-          let e : is_unresolved qs ≡ true = sym short_unresolved ∙ some in
-          found_unresolved from os (picked_unresolved ∙ e) (picked_first e ∙ ap (λ j. get_or ps j 0) (sym short_at_lem))
+      pub found_picked_unresolved : (at : ℕ) → f.unresolved ≡ Some at
+          → record { unresolved = Some (get_or ps at 0); count = 0 } ≡ found_among from os
+      found_picked_unresolved at some =
+          let u = unresolved_at 0 qs is some in
+          found_unresolved from os (picked_unresolved ∙ u.0) (picked_first u.0 ∙ ap (λ j. get_or ps j 0) u.1)
 
-      pub found_picked_resolved : f.unresolved ≡ false
-          → record { fits = true; unresolved = false; at = from + n; count = f.count } ≡ found_in true from os
+      pub found_picked_resolved : f.unresolved ≡ None → f ≡ found_among from os
       found_picked_resolved none =
-          let e : is_unresolved qs ≡ false = sym short_unresolved ∙ none in
-          found_resolved from os (picked_unresolved ∙ e) (picked_none e)
+          let e : is_unresolved qs ≡ false = all_resolved 0 qs is none in
+          record_of f none ∙ found_resolved from os (picked_unresolved ∙ e)
           (short_count ∙ sym (length-map (hits_of 0 qs) (λ h. get_or ps h 0)) ∙ ap length (sym picked_hits_of)
           ∙ ap length (sym (hits_resolved from os (picked_unresolved ∙ e))))
 

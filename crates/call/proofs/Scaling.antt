@@ -9,7 +9,7 @@ use lib.Dec.{leb}
 use lib.Ieee.{Float, le}
 use lib.ListN.{length, get_or, take, drop, length-drop}
 use lib.Seq.{length-take-le, get_or-take, get_or-drop}
-use borrow.Author.Tests.{leb-true, leb-false, le-leb}
+use borrow.Author.Tests.{leb-true, le-leb}
 use Rattle.model.specs.Ratio.{ratio, interpolate_rgb, packed}
 use Rattle.model.specs.declared.Rgb.{Rgb}
 use Rattle.ratio.proofs.Between.{joined}

@@ -1,5 +1,6 @@
 -- The tables of a job: codes of keys are small, and the numbers of the cells and the places and numbers of the regions, each at the front
 -- of an array, make up what a rule needs. Assumes nothing.
+use Rattle.std.specs.Prelude.{None}
 use Prim.Native.Nat.{ℕ, ◌≤◌, ◌<◌, min}
 use native.Mathlib.Omega.{arith}
 use mathlib.Core.Path.{◌≡◌, refl, sym, ap, ◌∙◌}
@@ -10,7 +11,7 @@ use lib.ListN.{length, get_or, take, drop, replicate, length-append, length-repl
 use lib.Seq.{length-take-le, length_front, take_at, get_or-take}
 use borrow.Author.Tests.{le-leb}
 use Rattle.model.specs.declared.CfRule.{CfRule}
-use Rattle.model.specs.declared.ConditionalValueKey.{ConditionalValueKey as Key}
+use Rattle.model.specs.Options.{Key}
 use Rattle.model.specs.Sheet.{CellColumns}
 use Rattle.model.specs.Readings.{has_key}
 use Rattle.places.specs.Walk.{walk_fits}
@@ -27,11 +28,11 @@ use Rattle.call.proofs.Tables.{values_of}
 name_within : (pool : List ℕ) (ks : List Key) (i : ℕ) → get_or (names_of pool ks) i 0 ≤ length ks
 unfolding has_key
 name_within pool ks i =
-    rw (padded_at (name_of pool ks) (name_none pool ks Key.Nothing refl) ks i) (go (has_key (get_or ks i Key.Nothing)) refl)
+    rw (padded_at (name_of pool ks) (name_none pool ks None refl) ks i) (go (has_key (get_or ks i None)) refl)
   where
-    go : (keyed : Bool) → has_key (get_or ks i Key.Nothing) ≡ keyed → name_of pool ks (get_or ks i Key.Nothing) ≤ length ks
-    go true e = rw (name_keyed pool ks (get_or ks i Key.Nothing) e) (omega (arith, keyed_within ks i e, first_within pool ks i e))
-    go false e = rw (name_none pool ks (get_or ks i Key.Nothing) e) (omega arith)
+    go : (keyed : Bool) → has_key (get_or ks i None) ≡ keyed → name_of pool ks (get_or ks i None) ≤ length ks
+    go true e = rw (name_keyed pool ks (get_or ks i None) e) (omega (arith, keyed_within ks i e, first_within pool ks i e))
+    go false e = rw (name_none pool ks (get_or ks i None) e) (omega arith)
 
 pub coded_small : (pool : List ℕ) (c : CellColumns) (codes : List ℕ) → Coded pool c codes → (i : ℕ) → get_or codes i 0 < 1025
 coded_small pool c codes coded i =

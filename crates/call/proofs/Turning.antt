@@ -1,8 +1,9 @@
 -- One rule with its marks: what was decided, written out by the regions that the rule paints, is the definition's turn. Assumes nothing.
 use Prim.Native.Nat.{ℕ, ◌+◌, ◌≤◌, ◌<◌}
 use native.Mathlib.Omega.{arith}
-use mathlib.Core.Path.{◌≡◌, sym, ap, ◌∙◌}
-use mathlib.Core.Bool.{Bool, false, cond}
+use mathlib.Core.Path.{◌≡◌, refl, sym, ap, ◌∙◌}
+use mathlib.Core.Bool.{Bool, true, false, cond}
+use mir.Val.{bool_byte}
 use mathlib.Core.List.{List, map}
 use lib.Ieee.{Float, nan}
 use lib.ListN.{length, get_or, take}
@@ -31,14 +32,18 @@ front_below hits count n m short fits below k h =
 pub flags_kept : (stop : Bool) (painted flags new : List ℕ) → new ≡ cond stop (stop_hits painted flags) flags → stop ≡ false → new ≡ flags
 flags_kept stop painted flags new e none = e ∙ ap (λ (b : Bool). cond b (stop_hits painted flags) flags) none
 
-abbrev pub ran_by : Ran → Decided → Ran
-ran_by ran d =
+abbrev pub ran_by : Ran → Decided → ℕ → ℕ → Ran
+ran_by ran d deferred simplified =
     record {
       charged = d.charged;
       marks = ran.marks + d.count;
-      deferred = ran.deferred + d.deferred;
-      simplified = ran.simplified + d.simplified;
+      deferred = ran.deferred + deferred;
+      simplified = ran.simplified + simplified;
     }
+
+pub byte_is : (b : Bool) → bool_byte b ≡ cond b 1 0
+byte_is true = refl
+byte_is false = refl
 
 module _ (i : IndexedRule) (s : Step) (st : State) (values : List Float) (hits : List ℕ) (d : Decided)
     (h : Decides s i.rule.imported values hits d) where
@@ -54,13 +59,14 @@ module _ (i : IndexedRule) (s : Step) (st : State) (values : List Float) (hits :
 
   pub turn_decided : (flags : List ℕ) (marks : MarkColumns) (bars : BarColumns) → flags ≡ stopped (take d.count hits)
       → marks ≡ marked (take d.count hits) → bars ≡ drawn (take d.count hits)
-      → state_of (ran_by st.ran d) flags marks bars ≡ turn i s st
-  turn_decided flags marks bars f m b =
+      → (deferred simplified : ℕ) → deferred ≡ cond d.deferred 1 0 → simplified ≡ cond d.simplified 1 0
+      → state_of (ran_by st.ran d deferred simplified) flags marks bars ≡ turn i s st
+  turn_decided flags marks bars f m b deferred simplified p q =
       (λ k. state_of (record {
         charged = h.charged k;
         marks = st.ran.marks + d.count;
-        deferred = st.ran.deferred + h.deferred k;
-        simplified = st.ran.simplified + h.simplified k;
+        deferred = st.ran.deferred + (p ∙ h.deferred) k;
+        simplified = st.ran.simplified + (q ∙ h.simplified) k;
       }) flags marks bars)
       ∙ turn_made i s st d.count flags marks bars (h.count ∙ sym (hits_marks i.index 0 s.outcomes))
       (f ∙ ap stopped h.painted ∙ sym (stops_hits i.rule.stop 0 s.outcomes st.flags))

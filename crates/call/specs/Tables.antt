@@ -1,11 +1,11 @@
 -- The tables that are worked out once for a job, and what they have to do with its sheet: the numbers of the cells, those of the regions'
 -- cells, the numbers that operands read as, and the codes of the keys. Not-a-number stands for no number. Assumes nothing.
-use Rattle.std.specs.Prelude.{ℕ, zero, suc, ◌+◌, ◌≤◌, ◌<◌, min, ◌≡◌, Bool, true, false, cond, not, ◌&&◌, ◌||◌, List, [], ◌∷◌, eqb, Float, length, get_or}
+use Rattle.std.specs.Prelude.{ℕ, zero, suc, ◌+◌, ◌≤◌, ◌<◌, min, ◌≡◌, Bool, true, false, cond, not, ◌&&◌, ◌||◌, List, [], ◌∷◌, eqb, Float, length, get_or, Some, None}
 use Rattle.std.proofs.Math.Option.{none}
 use Rattle.std.specs.Float.{nan}
 use Rattle.std.specs.Float.Ieee.{eq}
 use Rattle.model.specs.declared.A1Reference.{A1Reference}
-use Rattle.model.specs.declared.Axis.{Axis}
+use Rattle.model.specs.Options.{Axis}
 use Rattle.model.specs.declared.Cell.{Cell}
 use Rattle.model.specs.declared.CfRule.{CfRule}
 use Rattle.model.specs.declared.ConditionalOperand.{ConditionalOperand}
@@ -63,8 +63,8 @@ Meant c pool name range rows cols o column =
 
 -- the row or the column that an axis means; outside the grid a number that none has
 unfoldable pub axis_number : Axis → ℕ
-axis_number (Axis.At v) = v
-axis_number Axis.Outside = 4_294_967_296
+axis_number (Some v) = v
+axis_number None = 4_294_967_296
 
 -- whether a reference means the target itself from each target in range
 unfoldable pub means_target : A1Reference → Range → Bool

@@ -1,6 +1,5 @@
 // What a rule charges ahead of its regions, and how many cells are in range.
 ghost use Rattle.std.specs.Prelude.{ℕ, ◌≤◌, ◌≡◌, ◌&&◌, List, length};
-ghost use Rattle.charging.specs.declared.Charged.{Charged};
 ghost use Rattle.charging.specs.declared.Counter.{Counter};
 ghost use Rattle.charging.specs.Charge.{spend};
 ghost use Rattle.model.specs.declared.CellCoordinate.{CellCoordinate};
@@ -40,13 +39,13 @@ pub(crate) fn cells_asked(
     cols: &[u16],
 ) -> usize
     requires { (band.from ≤ band.to) × (band.to ≤ 1024) × (band.to ≤ length cols.now) }
-    ensures { (rows kinds wraps nums ats lens : List ℕ) (counter : Counter) → charged ≡ Charged.Within counter
+    ensures { (rows kinds wraps nums ats lens : List ℕ) (counter : Counter) → charged ≡ Ok counter
         → BandOf range rows band.from band.to
         → CellsCounted kind range (columns rows cols.now kinds wraps nums ats lens) result }
 {
-    let Charged::Within(_) = charged else {
+    if charged.is_err() {
         return 0;
-    };
+    }
     match kind {
         CfRule::CellIs { .. } => 0,
         CfRule::Expression { .. } => 0,
@@ -63,7 +62,7 @@ fn charge_ahead(rule: Rule, counter: Counter, limit: u64, inside: usize) -> Char
     let range = rule.range;
     let kind = rule.kind;
     if !ranges::upright(range) {
-        return Charged::Within(counter);
+        return Ok(counter);
     }
     if takes_values(kind) {
         return counter.charge_times(inside as u64, limit);
@@ -71,17 +70,14 @@ fn charge_ahead(rule: Rule, counter: Counter, limit: u64, inside: usize) -> Char
     if charges_area(kind, range) {
         return counter.charge_area(ranges::area(range), limit);
     }
-    Charged::Within(counter)
+    Ok(counter)
 }
 
 // The same after the charges so far. Nothing is charged once a charge is refused.
 pub(crate) fn charge_after(rule: Rule, charged: Charged, limit: u64, inside: usize) -> Charged
     ensures { (c : CellColumns) (regions : List CellCoordinate) (pool : List ℕ) (name : Span)
-        → ((counter : Counter) → charged ≡ Charged.Within counter → CellsCounted rule.kind rule.range c inside)
+        → ((counter : Counter) → charged ≡ Ok counter → CellsCounted rule.kind rule.range c inside)
         → result ≡ ahead_of_regions (sheet_from (cells_of c) regions pool name) rule limit charged }
 {
-    match charged {
-        Charged::Within(counter) => charge_ahead(rule, counter, limit, inside),
-        _ => charged,
-    }
+    charged.and_then(|counter| charge_ahead(rule, counter, limit, inside))
 }

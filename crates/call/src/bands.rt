@@ -18,17 +18,7 @@ fn first_from(rows: &[u32], row: u64) -> usize
     ensures after { (i : ℕ) → result ≤ i → i < length rows.now → row ≤ get_or rows.now i 0 }
     ensures within { result ≤ length rows.now }
 {
-    let mut low = 0;
-    let mut high = rows.len();
-    while low < high {
-        let middle = low + (high - low) / 2;
-        if (rows[middle] as u64) < row {
-            low = middle + 1;
-            continue;
-        }
-        high = middle;
-    }
-    low
+    rows.partition_point(|r| (*r as u64) < row)
 }
 
 // Of an inverted range it is empty.
@@ -51,11 +41,9 @@ pub(crate) fn cells_in(range: Range, band: Band, cols: &[u16]) -> usize
         → result ≡ length (cells_in range (cells_of (columns rows cols.now kinds wraps nums ats lens))) }
 {
     let mut count: u16 = 0;
-    let mut i = band.from;
-    while i < band.to {
+    for i in band.from..band.to {
         let col = cols[i];
         count += ((range.left <= col) & (col <= range.right)) as u16;
-        i += 1;
     }
     count as usize
 }
@@ -99,15 +87,13 @@ pub(crate) fn next_in(
     if jumps(range, rows, cols, i, to, gap) {
         return i + gap;
     }
-    let mut j = i + 1;
-    while j < to {
+    for j in i + 1..to {
         let col = cols[j];
         if (range.left <= col) & (col <= range.right) {
             return j;
         }
-        j += 1;
     }
-    j
+    to
 }
 
 // Whether most places of a band may be in range: it is short, or the first and the last of them are. Which is told decides the way that is

@@ -14,7 +14,7 @@ fn keep_column(column: &mut [u32], keep: bool)
     if keep {
         return;
     }
-    lent::clear_u32(column);
+    column.fill(0);
 }
 
 // The mark and bar columns.
@@ -135,9 +135,9 @@ pub(crate) fn settle_columns(
         ppms.len(),
         shapes.len(),
     );
-    let settled = settle(ran, space);
+    let answer = settle(ran, space);
     keep_columns(
-        settled.answered,
+        answer.is_ok(),
         regions,
         ruleids,
         markkinds,
@@ -147,5 +147,5 @@ pub(crate) fn settle_columns(
         barrules,
         barppms,
     );
-    settled.answer
+    answer
 }

@@ -30,6 +30,7 @@ fn count_codes(
     let mut gap = 0;
     let mut start = band.from;
     let mut i = start;
+    // the index jumps: out of range it goes on at the next cell in range
     while i < to {
         let col = cols[i];
         if (range.left <= col) & (col <= range.right) {
@@ -52,7 +53,7 @@ fn code_named(codes: &[u16], entry: u16) -> u16
     if entry == 0 {
         return 0;
     }
-    lent::at_u16(codes, entry as usize - 1)
+    lent::at(codes, entry as usize - 1, 0)
 }
 
 // The count of the code of each region in range; 0 where its cell has no key.
@@ -76,11 +77,12 @@ fn look_up(
     let mut gap = 0;
     let mut start = regions.from;
     let mut i = start;
+    // the index jumps: out of range it goes on at the next region in range
     while i < to {
         let col = region_cols[i];
         if (range.left <= col) & (col <= range.right) {
-            let code = code_named(codes, lent::at_u16(places, i));
-            founds[i] = lent::at_u16(counts, code as usize);
+            let code = code_named(codes, lent::at(places, i, 0));
+            founds[i] = lent::at(counts, code as usize, 0);
             i += 1;
             start = i;
             continue;

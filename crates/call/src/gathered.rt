@@ -36,6 +36,7 @@ pub(crate) fn gather(
     let mut gap = 0;
     let mut start = band.from;
     let mut i = start;
+    // the index jumps: out of range it goes on at the next cell in range
     while i < to {
         let col = cols[i];
         if (range.left <= col) & (col <= range.right) {
@@ -58,11 +59,8 @@ fn count_numbers(floats: &[f64]) -> u64
     ensures { result ≡ foldr (λ x later. cond (eq x x) (suc later) later) 0 floats.now }
 {
     let mut count = 0;
-    let mut i = 0;
-    while i < floats.len() {
-        let x = floats[i];
-        count += (x == x) as u64;
-        i += 1;
+    for x in floats {
+        count += (*x == *x) as u64;
     }
     count
 }

@@ -14,19 +14,19 @@ mod planned;
 mod rules;
 mod scales;
 mod shapes;
+mod stores;
 
 ghost use Rattle.std.specs.Prelude.{◌≡◌};
 ghost use Rattle.model.specs.Answer.{summary};
 ghost use Rattle.model.specs.Job.{result as job_result};
 ghost use Rattle.model.specs.Columns.{columns_of};
+ghost use Rattle.model.specs.Lent.{job_lent};
 ghost use Rattle.laws.specs.Demands.{lengths_of};
-ghost use Rattle.checks.specs.Checked.{cell_columns, job_of};
 ghost use Rattle.turns.specs.Lent.{lent};
 
 use crate::columns::{clear_columns, settle_columns};
 use charging::Charged;
-use checks::Checked;
-use model::{Answer, Rules, Span, Test};
+use model::{Answer, LentJob, Test};
 
 // The cells or the regions in the rows of a rule's range: those from index `from` up to `to`.
 #[derive(Clone, Copy)]
@@ -35,33 +35,21 @@ struct Band {
     to: usize,
 }
 
-// What a rule is decided to be: what the charges come to with its own, the test by which it paints, how many regions it paints, and 1 or 0
-// for a rule that counts as deferred and as simplified.
+// What a rule is decided to be: what the charges come to with its own, the test by which it paints, how many regions it paints, and whether
+// it counts as deferred and as simplified.
 #[derive(Clone, Copy)]
 struct Decided {
     charged: Charged,
     test: Test,
     count: usize,
-    deferred: u64,
-    simplified: u64,
+    deferred: bool,
+    simplified: bool,
 }
 
 // Port of resolve_conditional_paints (conditional.rs) over columns: the checks, the rules, and what becomes of them under the limit.
 pub fn resolve_conditional_paints(
-    rows: &[u32],
-    cols: &[u16],
-    kinds: &[u8],
-    wraps: &[u8],
-    nums: &[u64],
-    ats: &[u32],
-    lens: &[u32],
-    region_rows: &[u32],
-    region_cols: &[u16],
-    pool: &[u8],
-    name: Span,
-    rules: Rules,
+    job: LentJob<'_>,
     limit: u64,
-    start: u64,
     regions: &mut [u32],
     ruleids: &mut [u32],
     markkinds: &mut [u32],
@@ -72,59 +60,37 @@ pub fn resolve_conditional_paints(
     barppms: &mut [u32],
     scratch: &mut [f64],
 ) -> Answer
-    ensures answer { summary result ≡ (job_result (job_of (cell_columns rows.now cols.now kinds.now
-        wraps.now nums.now ats.now lens.now) region_rows.now region_cols.now
-        pool.now name rules start)
-        limit (lengths_of (lent regions.old ruleids.old markkinds.old colours.old
-        ppms.old shapes.old barrules.old barppms.old scratch.old))).summary }
+    ensures answer { summary result ≡ (job_result (job_lent job.entry) limit (lengths_of (lent regions.old ruleids.old
+        markkinds.old colours.old ppms.old shapes.old barrules.old barppms.old scratch.old))).summary }
     ensures columns { lent regions.new ruleids.new markkinds.new colours.new
         ppms.new shapes.new barrules.new barppms.new scratch.new
-        ≡ columns_of (job_of (cell_columns rows.now cols.now kinds.now
-        wraps.now nums.now ats.now lens.now) region_rows.now region_cols.now
-        pool.now name rules start)
-        limit (lengths_of (lent regions.old ruleids.old markkinds.old colours.old
+        ≡ columns_of (job_lent job.entry) limit (lengths_of (lent regions.old ruleids.old markkinds.old colours.old
         ppms.old shapes.old barrules.old barppms.old scratch.old)) }
 {
     clear_columns(
         regions, ruleids, markkinds, colours, ppms, shapes, barrules, barppms,
     );
-    let checked = checks::check(
-        rows,
-        cols,
-        kinds,
-        wraps,
-        nums,
-        ats,
-        lens,
-        region_rows,
-        region_cols,
-        pool,
-        name,
-        rules,
-        start,
-        barrules.len(),
-        barppms.len(),
-        scratch.len(),
-    );
-    if let Checked::Refused(answer) = checked {
-        lent::clear_f64(scratch);
-        return answer;
+    let checked = checks::check(job, barrules.len(), barppms.len(), scratch.len());
+    if let Err(refusal) = checked {
+        scratch.fill(0.0);
+        return Err(refusal);
     }
+    let cells = job.cells;
     let ran = rules::run(
-        rules,
-        start,
+        *job.rules,
+        job.start,
         limit,
-        rows,
-        cols,
-        kinds,
-        wraps,
-        nums,
-        ats,
-        lens,
-        region_rows,
-        region_cols,
-        pool,
-        name,
+        cells.rows,
+        cells.cols,
+        cells.kinds,
+        cells.wraps,
+        cells.nums,
+        cells.ats,
+        cells.lens,
+        job.regions.rows,
+        job.regions.cols,
+        job.pool,
+        job.name,
         regions,
         ruleids,
         markkinds,

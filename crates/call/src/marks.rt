@@ -1,5 +1,5 @@
 // What a rule leaves in the columns, by the regions that it paints: its marks, each column by itself, its bars and its stops.
-ghost use Rattle.std.specs.Prelude.{ℕ, ◌<◌, ◌≤◌, ◌-◌, min, ◌≡◌, Bool, cond, List, map, Float, length, get_or, replicate};
+ghost use Rattle.std.specs.Prelude.{ℕ, ◌<◌, ◌≤◌, ◌-◌, min, ◌≡◌, Bool, cond, List, map, Float, length, get_or, replicate, All};
 ghost use Rattle.std.specs.Float.{nan};
 ghost use Rattle.std.proofs.lemmas.List.Edits.{sets};
 ghost use Rattle.model.specs.Ratio.{ratio};
@@ -9,43 +9,17 @@ ghost use Rattle.turns.specs.Emit.{mark_columns, hit_mark, put_marks, bar_column
 
 use crate::scales::{put_scale2, put_scale3};
 use crate::shapes::put_shapes;
+use crate::stores::{put_each, put_same};
 use model::Test;
 use ratio::{normalized_ppm, packed};
 
-// ---- one column of the marks from place n on; past its end nothing is written
-
-// How many of the marks there is space for.
-pub(crate) fn space_for(count: usize, n: usize, len: usize) -> usize
-    ensures { result ≡ min count (len - n) }
-{
-    if len <= n {
-        return 0;
-    }
-    if count < len - n { count } else { len - n }
-}
+// ---- one column of the marks from place n on
 
 // The regions themselves.
 fn put_regions(hits: &[u16], n: usize, column: &mut [u32])
     ensures { column.new ≡ sets column.old n hits.now }
 {
-    let end = space_for(hits.len(), n, column.len());
-    let mut k = 0;
-    while k < end {
-        column[n + k] = hits[k] as u32;
-        k += 1;
-    }
-}
-
-// One value for all marks.
-pub(crate) fn put_same(value: u32, count: usize, n: usize, column: &mut [u32])
-    ensures { column.new ≡ sets column.old n (replicate count value) }
-{
-    let end = space_for(count, n, column.len());
-    let mut k = 0;
-    while k < end {
-        column[n + k] = value;
-        k += 1;
-    }
+    put_each(hits, n, column, |hit| hit as u32);
 }
 
 // The ratios of the regions' numbers.
@@ -61,13 +35,9 @@ pub(crate) fn put_ratios(
     ensures { column.new ≡ sets column.old n
         (map (λ h. ratio (get_or values.now h nan) least greatest) hits.now) }
 {
-    let end = space_for(hits.len(), n, column.len());
-    let mut k = 0;
-    while k < end {
-        let x = values[hits[k] as usize];
-        column[n + k] = normalized_ppm(x, least, greatest);
-        k += 1;
-    }
+    put_each(hits, n, column, |hit| {
+        normalized_ppm(values[hit as usize], least, greatest)
+    });
 }
 
 // ---- the fields of a mark
@@ -201,7 +171,7 @@ fn draw_bar(
     ensures { bar_columns rules.new ppms.new
         ≡ draw_hit rule (ratio x least greatest) region (bar_columns rules.old ppms.old) }
 {
-    if lent::at_u32(rules, region) != 0 {
+    if lent::at(rules, region, 0) != 0 {
         return;
     }
     let ppm = normalized_ppm(x, least, greatest);
@@ -228,11 +198,9 @@ fn draw_hits(
         ≡ draw_hits rule (λ h. ratio (get_or values.now h nan) least greatest) hits.now
         (bar_columns rules.old ppms.old) }
 {
-    let mut k = 0;
-    while k < hits.len() {
-        let region = hits[k] as usize;
+    for hit in hits {
+        let region = *hit as usize;
         draw_bar(rule, values[region], least, greatest, region, rules, ppms);
-        k += 1;
     }
 }
 
@@ -268,12 +236,10 @@ pub(crate) fn stop_regions(stop: bool, hits: &[u16], flags: &mut [u8])
     if !stop {
         return;
     }
-    let mut k = 0;
-    while k < hits.len() {
-        let region = hits[k] as usize;
+    for hit in hits {
+        let region = *hit as usize;
         if region < flags.len() {
             flags[region] = 1;
         }
-        k += 1;
     }
 }

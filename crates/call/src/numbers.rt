@@ -7,17 +7,14 @@ ghost use Rattle.cells.specs.Columns.{columns};
 ghost use Rattle.hits.specs.Said.{as_float};
 ghost use Rattle.call.specs.Tables.{cell_of, number_named};
 
+use crate::stores::fill_each;
 use cells::cell_from;
-use model::Reading;
 use readings::number::numeric_cell_value;
 
-pub(crate) fn float_of(reading: Reading) -> f64
+pub(crate) fn float_of(reading: Option<f64>) -> f64
     ensures { result ≡ as_float reading }
 {
-    match reading {
-        Reading::Number(x) => x,
-        Reading::Nothing => 0.0 / 0.0,
-    }
+    reading.unwrap_or(f64::NAN)
 }
 
 // The number of a cell from the entries of its columns: that of a number or a date in at most 64 wraps, if it is finite. The exponent
@@ -29,23 +26,16 @@ fn number_of(kind: u8, wraps: u8, bits: u64) -> f64
     if ((kind == 1) | (kind == 2)) & (wraps <= 64) & (exponent != 2047) {
         return f64::from_bits(bits);
     }
-    0.0 / 0.0
+    f64::NAN
 }
 
-// The numbers of as many cells as there is room for, where no column is shorter. The loop has no branch, so that the compiler reads
-// several cells at once.
-fn number_all(kinds: &[u8], wraps: &[u8], nums: &[u64], floats: &mut [f64])
-    requires { (length floats.old ≤ length kinds.now) × (length floats.old ≤ length wraps.now)
-        × (length floats.old ≤ length nums.now) }
-    ensures { (rows cols ats lens : List ℕ) (i : ℕ) → i < length floats.old → get_or floats.new i nan
-        ≡ as_float (numeric_cell_value (cell_from (columns rows cols kinds.now wraps.now nums.now
-        ats lens) i).cell) }
+// The number of the cell at an index, by columns of any length.
+fn number_at(kinds: &[u8], wraps: &[u8], nums: &[u64], ats: &[u32], lens: &[u32], i: usize) -> f64
+    ensures { (rows cols : List ℕ) → result ≡ as_float (numeric_cell_value (cell_from (columns rows cols kinds.now
+        wraps.now nums.now ats.now lens.now) i).cell) }
 {
-    let mut i = 0;
-    while i < floats.len() {
-        floats[i] = number_of(kinds[i], wraps[i], nums[i]);
-        i += 1;
-    }
+    let cell = cell_from(kinds, wraps, nums, ats, lens, i);
+    float_of(numeric_cell_value(cell))
 }
 
 // The numbers of as many cells as there is room for.
@@ -63,15 +53,11 @@ pub(crate) fn number_cells(
 {
     let n = floats.len();
     if n <= kinds.len() && n <= wraps.len() && n <= nums.len() {
-        number_all(kinds, wraps, nums, floats);
+        // There is no branch, so that the compiler reads several cells at once.
+        fill_each(floats, |i| number_of(kinds[i], wraps[i], nums[i]));
         return;
     }
-    let mut i = 0;
-    while i < floats.len() {
-        let cell = cell_from(kinds, wraps, nums, ats, lens, i);
-        floats[i] = float_of(numeric_cell_value(cell));
-        i += 1;
-    }
+    fill_each(floats, |i| number_at(kinds, wraps, nums, ats, lens, i));
 }
 
 // The number of the cell that an entry of a table of places names.
@@ -79,13 +65,9 @@ pub(crate) fn number_named(floats: &[f64], entry: u16) -> f64
     ensures { result ≡ number_named floats.now entry }
 {
     if entry == 0 {
-        return 0.0 / 0.0;
+        return f64::NAN;
     }
-    let place = entry as usize - 1;
-    if place < floats.len() {
-        return floats[place];
-    }
-    0.0 / 0.0
+    lent::at(floats, entry as usize - 1, f64::NAN)
 }
 
 // The numbers of the cells that a table of places names, for as many regions as there is room for.
@@ -93,9 +75,5 @@ pub(crate) fn number_regions(places: &[u16], floats: &[f64], values: &mut [f64])
     ensures { (i : ℕ) → i < length values.old
         → get_or values.new i nan ≡ number_named floats.now (get_or places.now i 0) }
 {
-    let mut i = 0;
-    while i < values.len() {
-        values[i] = number_named(floats, lent::at_u16(places, i));
-        i += 1;
-    }
+    fill_each(values, |i| number_named(floats, lent::at(places, i, 0)));
 }

@@ -18,7 +18,7 @@ use crate::Band;
 use crate::numbers::{float_of, number_named};
 use comparison::uses_second;
 use hits::by_literals;
-use model::{A1Reference, CellCoordinate, ConditionalOperand, Range, Referenced, Span, Test};
+use model::{A1Reference, CellCoordinate, ConditionalOperand, Range, Span, Test};
 use ranges::within_grid;
 use readings::number::finite_reading;
 use references::{conditional_reference_coordinate, names_sheet};
@@ -29,14 +29,14 @@ use references::{conditional_reference_coordinate, names_sheet};
 fn comes_before(rows: &[u32], cols: &[u16], i: usize, at: CellCoordinate) -> bool
     ensures { result ≡ rises (get_or rows.now i 0) (get_or cols.now i 0) at.row at.col }
 {
-    let row = lent::at_u32(rows, i);
+    let row = lent::at(rows, i, 0);
     if row < at.row {
         return true;
     }
     if row > at.row {
         return false;
     }
-    lent::at_u16(cols, i) < at.col
+    lent::at(cols, i, 0) < at.col
 }
 
 // Whether there is a cell at an index, and it stands in a row and a column.
@@ -64,6 +64,7 @@ fn first_not_before(rows: &[u32], cols: &[u16], at: CellCoordinate) -> usize
 {
     let mut low = 0;
     let mut high = rows.len();
+    // both ends move: a search by halves over two columns, of which the library has one over a slice alone
     while low < high {
         let middle = low + (high - low) / 2;
         if comes_before(rows, cols, middle, at) {
@@ -132,8 +133,8 @@ fn entry_referenced(
         reference) }
 {
     match conditional_reference_coordinate(reference, range, target, pool, sheet) {
-        Referenced::At(at) => entry_at(rows, cols, at, guess),
-        Referenced::Nowhere => 0,
+        Some(at) => entry_at(rows, cols, at, guess),
+        None => 0,
     }
 }
 
@@ -195,12 +196,10 @@ fn find_referenced(
         region_rows.now region_cols.now (ConditionalOperand.Reference reference) column.new }
 {
     let mut next = 0;
-    let mut i = band.from;
-    while i < band.to {
+    for i in band.from..band.to {
         let col = region_cols[i];
         let inside = (range.left <= col) & (col <= range.right);
         if !inside {
-            i += 1;
             continue;
         }
         let row = region_rows[i];
@@ -221,38 +220,28 @@ fn find_referenced(
         if stands_at(rows, cols, next, at_row, at_col) {
             column[i] = floats[next];
             next += 1;
-            i += 1;
             continue;
         }
         let entry = entry_sought(rows, cols, at_row, at_col, next);
         column[i] = number_named(floats, entry);
         next = entry as usize;
-        i += 1;
     }
 }
 
 // One number for each index of a band.
 fn fill(column: &mut [f64], band: Band, x: f64)
-    requires { band.to ≤ length column.old }
+    requires { (band.from ≤ band.to) × (band.to ≤ length column.old) }
     ensures { (i : ℕ) → band.from ≤ i → i < band.to → get_or column.new i nan ≡ x }
 {
-    let mut i = band.from;
-    while i < band.to {
-        column[i] = x;
-        i += 1;
-    }
+    column[band.from..band.to].fill(x);
 }
 
 // The numbers of another column for each index of a band.
 fn copy(values: &[f64], column: &mut [f64], band: Band)
-    requires { (band.to ≤ length values.now) × (band.to ≤ length column.old) }
+    requires { (band.from ≤ band.to) × (band.to ≤ length values.now) × (band.to ≤ length column.old) }
     ensures { (i : ℕ) → band.from ≤ i → i < band.to → get_or column.new i nan ≡ get_or values.now i nan }
 {
-    let mut i = band.from;
-    while i < band.to {
-        column[i] = values[i];
-        i += 1;
-    }
+    column[band.from..band.to].copy_from_slice(&values[band.from..band.to]);
 }
 
 // The same, where a reference to another sheet reads as nothing, one that is absolute in row and column means one cell from every region,
@@ -284,7 +273,7 @@ fn find_reference(
 {
     let name = reference.sheet;
     if !names_sheet(name, pool, sheet) {
-        fill(column, band, 0.0 / 0.0);
+        fill(column, band, f64::NAN);
         return;
     }
     if reference.row_absolute & reference.col_absolute {
@@ -355,7 +344,7 @@ fn find_operand(
             sheet,
             column,
         ),
-        ConditionalOperand::Unread => fill(column, band, 0.0 / 0.0),
+        ConditionalOperand::Unread => fill(column, band, f64::NAN),
     }
 }
 

@@ -5,7 +5,7 @@ ghost use Rattle.std.proofs.Math.Option.{none};
 ghost use Rattle.std.specs.Float.{nan};
 ghost use Rattle.memory.specs.Memory.{page_of};
 ghost use Rattle.model.specs.Job.{first_fall};
-ghost use Rattle.hits.specs.Hits.{known, outcomes_by, hits_of, fits_hits, found_in};
+ghost use Rattle.hits.specs.Hits.{known, outcomes_by, hits_of, fits_hits, found_among};
 ghost use Rattle.turns.specs.Knowing.{counts_keys};
 ghost use Rattle.call.specs.Tables.{inside_from, looks_at_operands};
 
@@ -28,6 +28,7 @@ fn list_in(range: Range, band: Band, rows: &[u32], cols: &[u16], list: &mut [u16
     let mut gap = 0;
     let mut start = band.from;
     let mut i = start;
+    // the index jumps: out of range it goes on at the next cell in range
     while i < to {
         let col = cols[i];
         if (range.left <= col) & (col <= range.right) {
@@ -50,84 +51,43 @@ fn list_in(range: Range, band: Band, rows: &[u32], cols: &[u16], list: &mut [u16
 // ---- columns of them
 
 // Whether a test looks at the columns of what its operands read as.
+#[tactic(auto, unfolding(crate::specs::Tables::looks_at_operands, turns::specs::Knowing::takes_first))]
 fn looks_at_operands(test: Test) -> bool
     ensures { result ≡ looks_at_operands test }
 {
     if by_literals(test) {
         return false;
     }
-    match test {
-        Test::CellIs { .. } => true,
-        Test::Expression { .. } => true,
-        _ => false,
-    }
+    matches!(test, Test::CellIs { .. } | Test::Expression { .. })
 }
 
 // Whether a test looks at how often a key is there.
+#[tactic(auto, unfolding(turns::specs::Knowing::counts_keys))]
 fn counts_keys(test: Test) -> bool
     ensures { result ≡ counts_keys test }
 {
-    match test {
-        Test::DuplicateValues { .. } => true,
-        _ => false,
-    }
+    matches!(test, Test::DuplicateValues { .. })
 }
 
-fn pick_floats(list: &[u16], column: &[f64], short: &mut [f64])
+// The entries of a column that a list picks.
+fn pick<T: Copy>(list: &[u16], column: &[T], short: &mut [T])
     requires { ((k : ℕ) → k < length list.now → get_or list.now k 0 < length column.now) × (length list.now ≤ length short.old) }
-    ensures { (k : ℕ) → k < length list.now
-        → get_or short.new k nan ≡ get_or column.now (get_or list.now k 0) nan }
+    ensures { (k : ℕ) (d : T) → k < length list.now
+        → get_or short.new k d ≡ get_or column.now (get_or list.now k 0) d }
 {
-    let mut k = 0;
-    while k < list.len() {
+    for k in 0..list.len() {
         short[k] = column[list[k] as usize];
-        k += 1;
     }
 }
 
-fn pick_numbers(list: &[u16], column: &[u16], short: &mut [u16])
+// The same of a column that a test may not look at.
+fn pick_if<T: Copy>(looked_at: bool, list: &[u16], column: &[T], short: &mut [T])
     requires { ((k : ℕ) → k < length list.now → get_or list.now k 0 < length column.now) × (length list.now ≤ length short.old) }
-    ensures { (k : ℕ) → k < length list.now
-        → get_or short.new k 0 ≡ get_or column.now (get_or list.now k 0) 0 }
+    ensures { looked_at ≡ true → (k : ℕ) (d : T) → k < length list.now
+        → get_or short.new k d ≡ get_or column.now (get_or list.now k 0) d }
 {
-    let mut k = 0;
-    while k < list.len() {
-        short[k] = column[list[k] as usize];
-        k += 1;
-    }
-}
-
-fn pick_flags(list: &[u16], column: &[u8], short: &mut [u8])
-    requires { ((k : ℕ) → k < length list.now → get_or list.now k 0 < length column.now) × (length list.now ≤ length short.old) }
-    ensures { (k : ℕ) → k < length list.now
-        → get_or short.new k 0 ≡ get_or column.now (get_or list.now k 0) 0 }
-{
-    let mut k = 0;
-    while k < list.len() {
-        short[k] = column[list[k] as usize];
-        k += 1;
-    }
-}
-
-// What an operand reads as, where the test looks at it.
-fn pick_operand(test: Test, list: &[u16], column: &[f64], short: &mut [f64])
-    requires { ((k : ℕ) → k < length list.now → get_or list.now k 0 < length column.now) × (length list.now ≤ length short.old) }
-    ensures { looks_at_operands test ≡ true → (k : ℕ) → k < length list.now
-        → get_or short.new k nan ≡ get_or column.now (get_or list.now k 0) nan }
-{
-    if looks_at_operands(test) {
-        pick_floats(list, column, short);
-    }
-}
-
-// How often keys are there, where the test looks at it.
-fn pick_founds(test: Test, list: &[u16], column: &[u16], short: &mut [u16])
-    requires { ((k : ℕ) → k < length list.now → get_or list.now k 0 < length column.now) × (length list.now ≤ length short.old) }
-    ensures { counts_keys test ≡ true → (k : ℕ) → k < length list.now
-        → get_or short.new k 0 ≡ get_or column.now (get_or list.now k 0) 0 }
-{
-    if counts_keys(test) {
-        pick_numbers(list, column, short);
+    if looked_at {
+        pick(list, column, short);
     }
 }
 
@@ -137,11 +97,9 @@ fn put_back(list: &[u16], places: &[u16], hits: &mut [u16])
     ensures { hits.new ≡ page_of true (length hits.old)
         (map (λ h. get_or list.now h 0) places.now) }
 {
-    lent::clear_u16(hits);
-    let mut k = 0;
-    while k < places.len() {
+    hits.fill(0);
+    for k in 0..places.len() {
         hits[k] = list[places[k] as usize];
-        k += 1;
     }
 }
 
@@ -164,7 +122,7 @@ fn find_listed(
     requires list_value { (list.now ≡ inside_from range cols.now band.from (band.to - band.from)) × (length list.now ≤ 128) }
     requires hits_value { fits_hits band.from band.to (known values.now firsts.now seconds.now founds.now) cols.now
         flags.now (length hits.old) ≡ true }
-    ensures found { (imported : Bool) → result ≡ found_in true band.from
+    ensures found { (imported : Bool) → result ≡ found_among band.from
         (outcomes_by (known values.now firsts.now seconds.now founds.now) range test imported
         cols.now flags.now band.from (band.to - band.from)) }
     ensures hits { (imported : Bool) → hits.new ≡ page_of true (length hits.old) (hits_of band.from
@@ -173,19 +131,20 @@ fn find_listed(
 {
     let n = list.len();
     let mut short_flags = [0u8; 128];
-    pick_flags(list, flags, &mut short_flags);
+    pick(list, flags, &mut short_flags);
     let mut short_cols = [0u16; 128];
-    pick_numbers(list, cols, &mut short_cols);
+    pick(list, cols, &mut short_cols);
     let mut short_values = [0.0; 128];
-    pick_floats(list, values, &mut short_values);
+    pick(list, values, &mut short_values);
+    let operands = looks_at_operands(test);
     let mut short_firsts = [0.0; 128];
-    pick_operand(test, list, firsts, &mut short_firsts);
+    pick_if(operands, list, firsts, &mut short_firsts);
     let mut short_seconds = [0.0; 128];
-    pick_operand(test, list, seconds, &mut short_seconds);
+    pick_if(operands, list, seconds, &mut short_seconds);
     let mut short_founds = [0u16; 128];
-    pick_founds(test, list, founds, &mut short_founds);
+    pick_if(counts_keys(test), list, founds, &mut short_founds);
     let mut places = [0u16; 129];
-    let found = find_hits(
+    let Some(found) = find_hits(
         test,
         range,
         0,
@@ -197,22 +156,16 @@ fn find_listed(
         &short_seconds,
         &short_founds,
         &mut places,
-    );
+    ) else {
+        unreachable!()
+    };
     put_back(list, &places[..found.count], hits);
-    let at = found.at;
-    if found.unresolved {
-        return Found {
-            fits: true,
-            unresolved: true,
-            at: list[at] as usize,
+    match found.unresolved {
+        Some(at) => Found {
+            unresolved: Some(list[at] as usize),
             count: 0,
-        };
-    }
-    Found {
-        fits: true,
-        unresolved: false,
-        at: band.to,
-        count: found.count,
+        },
+        None => found,
     }
 }
 
@@ -234,7 +187,7 @@ pub(crate) fn find_within(
         × (band.to ≤ length rows.now) }
     requires hits_value { fits_hits band.from band.to (known values.now firsts.now seconds.now founds.now) cols.now
         flags.now (length hits.old) ≡ true }
-    ensures found { (imported : Bool) → result ≡ found_in true band.from
+    ensures found { (imported : Bool) → result ≡ found_among band.from
         (outcomes_by (known values.now firsts.now seconds.now founds.now) range test imported
         cols.now flags.now band.from (band.to - band.from)) }
     ensures hits { (imported : Bool) → hits.new ≡ page_of true (length hits.old) (hits_of band.from
@@ -262,7 +215,10 @@ pub(crate) fn find_within(
             );
         }
     }
-    find_hits(
+    let Some(found) = find_hits(
         test, range, from, to, flags, cols, values, firsts, seconds, founds, hits,
-    )
+    ) else {
+        unreachable!()
+    };
+    found
 }

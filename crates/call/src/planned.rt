@@ -2,7 +2,6 @@
 ghost use Rattle.std.specs.Prelude.{ℕ, ◌<◌, ◌≤◌, ◌-◌, ◌≡◌, true, false, List, length, get_or};
 ghost use Rattle.std.proofs.Math.Option.{none};
 ghost use Rattle.charging.specs.declared.Counter.{Counter};
-ghost use Rattle.charging.specs.declared.Charged.{Charged};
 ghost use Rattle.model.specs.declared.CellCoordinate.{CellCoordinate};
 ghost use Rattle.model.specs.declared.CfRule.{CfRule};
 ghost use Rattle.model.specs.declared.Plan.{Plan};
@@ -23,7 +22,7 @@ use crate::counts::count_keys;
 use crate::gathered::{are_values, gather};
 use charging::Charged;
 use model::{CfRule, Plan, Range, Rgb, Rule, Test};
-use plans::{Planned, plan_of_numbers, plan_of_operands, plan_of_values, takes_values};
+use plans::{plan_of_numbers, plan_of_operands, plan_of_values, takes_values};
 use ranges::within_grid;
 
 // By the values of the range. Where each cell of the band is in range and has a number, the values are the band's floats one by one, which
@@ -51,7 +50,7 @@ fn plan_by_values(
     if are_values(inside, numeric, band, floats) {
         let from = band.from;
         let to = band.to;
-        if let Planned::Of(plan) = plan_of_numbers(kind, &floats[from..to]) {
+        if let Some(plan) = plan_of_numbers(kind, &floats[from..to]) {
             return plan;
         }
     }
@@ -273,7 +272,7 @@ pub(crate) fn plan_within(
     requires by_index { ((i : ℕ) → get_or codes.now i 0 < 1025) × (band.to ≤ length floats.now)
         × (band.to - band.from ≤ length scratch.old) × (numeric ≡ true → AllNumbers floats.now) }
     ensures plan { (kinds wraps nums ats lens pool : List ℕ) (sheetRegions : List CellCoordinate) (name : Span)
-        (counter : Counter) → charged ≡ Charged.Within counter
+        (counter : Counter) → charged ≡ Ok counter
         → Banded rule.range (columns rows.now cols.now kinds wraps nums ats lens) band.from band.to
         → CellsCounted rule.kind rule.range (columns rows.now cols.now kinds wraps nums ats lens) inside
         → Numbered (columns rows.now cols.now kinds wraps nums ats lens) floats.now
@@ -287,25 +286,25 @@ pub(crate) fn plan_within(
         → Followed (columns rows.now cols.now kinds wraps nums ats lens) region_rows.now region_cols.now places.now
         → result ≡ Plan.Tested test
         → Founded pool (columns rows.now cols.now kinds wraps nums ats lens) rule.range region_rows.now region_cols.now founds.new }
-    ensures refused { (test : Test) → result ≡ Plan.Tested test → (counter : Counter) × (charged ≡ Charged.Within counter) }
+    ensures refused { (test : Test) → result ≡ Plan.Tested test → (counter : Counter) × (charged ≡ Ok counter) }
 {
-    match charged {
-        Charged::Within(_) => plan_rule(
-            rule,
-            band,
-            inside,
-            numeric,
-            regions,
-            rows,
-            cols,
-            floats,
-            codes,
-            places,
-            region_rows,
-            region_cols,
-            founds,
-            scratch,
-        ),
-        _ => Plan::Deferred,
+    if charged.is_err() {
+        return Plan::Deferred;
     }
+    plan_rule(
+        rule,
+        band,
+        inside,
+        numeric,
+        regions,
+        rows,
+        cols,
+        floats,
+        codes,
+        places,
+        region_rows,
+        region_cols,
+        founds,
+        scratch,
+    )
 }

@@ -1,5 +1,6 @@
 // The rules of a job in their order: each is decided, then its marks, stops and bars are written out. The cells and the regions rise.
-ghost use Rattle.std.specs.Prelude.{ℕ, ◌+◌, ◌<◌, ◌≤◌, ◌≡◌, Bool, true, false, cond, List, [], Float, length, get_or, take, replicate};
+ghost use Rattle.std.specs.Prelude.{ℕ, ◌+◌, ◌<◌, ◌≤◌, ◌≡◌, Bool, true, false, cond, List, [], Float, length, get_or, take, replicate, IfSome, MatchOption};
+ghost use Rattle.std.specs.Option.{is_some};
 ghost use Rattle.std.proofs.Math.Option.{none};
 ghost use Rattle.model.specs.declared.Outcome.{Outcome};
 ghost use Rattle.model.specs.declared.Rule.{Rule};
@@ -34,22 +35,11 @@ use settling::Ran;
 
 // ---- a rule up to its marks
 
-fn one_if(b: bool) -> u64
-    ensures { result ≡ cond b 1 0 }
-{
-    if b {
-        return 1;
-    }
-    0
-}
-
+#[tactic(auto, unfolding(plans::specs::Plans::is_bar_test))]
 fn is_bar_test(test: Test) -> bool
     ensures { result ≡ is_bar_test test }
 {
-    match test {
-        Test::DataBar { .. } => true,
-        _ => false,
-    }
+    matches!(test, Test::DataBar { .. })
 }
 
 // A test that stands where there is none: no region is painted by it.
@@ -68,18 +58,14 @@ fn no_test() -> Test {
 fn untested(charged: Charged, unresolved: bool) -> Decided
     ensures decided { (limit : ℕ) (imported : Bool) (values : List Float) (hits : List ℕ)
         → Decides (step_from limit false (judged_as [] 0 unresolved) charged) imported values hits result }
-    ensures few { (result.count ≡ 0) × (result.deferred ≤ 1) × (result.simplified ≡ 0) }
+    ensures none { result.count ≡ 0 }
 {
-    let deferred = match charged {
-        Charged::Within(_) => one_if(unresolved),
-        _ => 0,
-    };
     Decided {
         charged,
         test: no_test(),
         count: 0,
-        deferred,
-        simplified: 0,
+        deferred: charged.is_ok() & unresolved,
+        simplified: false,
     }
 }
 
@@ -87,43 +73,38 @@ fn untested(charged: Charged, unresolved: bool) -> Decided
 fn charge_found(charged: Charged, limit: u64, test: Test, asked: u64, found: Found) -> Decided
     ensures decided { (os : List Outcome) (imported : Bool) (values : List Float) (hits : List ℕ)
         → found.count ≡ length (hits_from 0 os) → take found.count hits ≡ hits_from 0 os → Paints test imported values os
-        → Decides (step_from limit (is_bar_test test) (judged_as os asked found.unresolved) charged) imported values hits result }
-    ensures few { (result.count ≤ found.count) × (result.deferred ≤ 1) × (result.simplified ≤ 1) }
+        → Decides (step_from limit (is_bar_test test) (judged_as os asked (is_some found.unresolved)) charged) imported values hits result }
+    ensures few { result.count ≤ found.count }
 {
-    let Charged::Within(counter) = charged else {
-        return untested(charged, false);
-    };
-    let all = counter.charge_times(asked, limit);
-    let Charged::Within(_) = all else {
+    let all = charged.and_then(|counter| counter.charge_times(asked, limit));
+    if all.is_err() {
         return untested(all, false);
-    };
+    }
     Decided {
         charged: all,
         test,
         count: found.count,
-        deferred: one_if(found.unresolved),
-        simplified: one_if(is_bar_test(test)),
+        deferred: found.unresolved.is_some(),
+        simplified: is_bar_test(test),
     }
 }
 
 // How many regions are charged: those that are not stopped, up to the first that leaves the test unresolved.
 fn asked_of(found: Found, alive: u64, flags: &[u8]) -> u64
-    requires { found.unresolved ≡ true → found.at < length flags.now }
-    ensures { result ≡ cond found.unresolved (live_from flags.now 0 (found.at + 1)) alive }
+    requires { IfSome found.unresolved (λ at. at < length flags.now) }
+    ensures { MatchOption found.unresolved (result ≡ alive) (λ at. result ≡ live_from flags.now 0 (at + 1)) }
 {
-    if found.unresolved {
-        return live(&flags[..found.at + 1]);
+    match found.unresolved {
+        Some(at) => live(&flags[..at + 1]),
+        None => alive,
     }
-    alive
 }
 
 fn nothing_found() -> Found
-    ensures { result ≡ record { fits = true; unresolved = false; at = 0; count = 0 } }
+    ensures { result ≡ record { unresolved = None; count = 0 } }
 {
     Found {
-        fits: true,
-        unresolved: false,
-        at: 0,
+        unresolved: None,
         count: 0,
     }
 }
@@ -166,7 +147,7 @@ fn test_regions(
         wraps nums ats lens) region_rows.now region_cols.now pool.now sheet) rule test
         region_rows.now region_cols.now flags.now 0 (length region_rows.now))) charged)
         rule.imported values.now hits.new result }
-    ensures few { (result.count ≤ length region_rows.now) × (result.deferred ≤ 1) × (result.simplified ≤ 1) }
+    ensures few { result.count ≤ length region_rows.now }
     ensures hits { (k : ℕ) → k < result.count → get_or hits.new k 0 < length region_rows.now }
 {
     // Where all regions are stopped none is asked.
@@ -247,7 +228,7 @@ fn decide(
         region_rows.now region_cols.now pool.now sheet) rule charged limit
         region_rows.now region_cols.now flags.now) rule.imported values.now
         hits.new result }
-    ensures few { (result.count ≤ length region_rows.now) × (result.deferred ≤ 1) × (result.simplified ≤ 1) }
+    ensures few { result.count ≤ length region_rows.now }
     ensures hits { (k : ℕ) → k < result.count → get_or hits.new k 0 < length region_rows.now }
 {
     let range = rule.range;
@@ -403,8 +384,8 @@ fn turn(
     Ran {
         charged,
         marks: ran.marks + said.count as u32,
-        deferred: ran.deferred + said.deferred,
-        simplified: ran.simplified + said.simplified,
+        deferred: ran.deferred + u64::from(said.deferred),
+        simplified: ran.simplified + u64::from(said.simplified),
     }
 }
 
@@ -413,7 +394,7 @@ fn none_yet(start: u64) -> Ran
     ensures { result ≡ ran_none start }
 {
     Ran {
-        charged: Charged::Within(Counter { count: start }),
+        charged: Ok(Counter { count: start }),
         marks: 0,
         deferred: 0,
         simplified: 0,
@@ -497,8 +478,7 @@ fn run_rules(
     let n = region_rows.len();
     let mut alive = n as u64;
     let mut ran = none_yet(start);
-    let mut k = 0;
-    while k < count {
+    for k in 0..count {
         let index = order[k];
         let at = index as usize;
         let rule = rules.records[at];
@@ -537,7 +517,6 @@ fn run_rules(
         if rule.stop {
             alive = live(&flags[..n]);
         }
-        k += 1;
     }
     ran
 }
@@ -621,6 +600,6 @@ pub(crate) fn run(
         barppms,
         scratch,
     );
-    lent::clear_f64(scratch);
+    scratch.fill(0.0);
     ran
 }

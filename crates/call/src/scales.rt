@@ -6,60 +6,10 @@ ghost use Rattle.std.specs.Float.Ieee.{le};
 ghost use Rattle.std.proofs.lemmas.List.Edits.{sets};
 ghost use Rattle.model.specs.Ratio.{ratio, interpolate_rgb, packed};
 
-use crate::marks::{put_ratios, space_for};
+use crate::marks::put_ratios;
+use crate::stores::{put_each, space_for};
 use model::Rgb;
 use ratio::{blended, blended_among, place_among, place_rising};
-
-// The places of the regions' numbers among three ends, one by one.
-fn put_each_place(
-    values: &[f64],
-    hits: &[u16],
-    least: f64,
-    midpoint: f64,
-    greatest: f64,
-    n: usize,
-    column: &mut [u32],
-)
-    requires { (k : ℕ) → k < length hits.now → get_or hits.now k 0 < length values.now }
-    ensures { column.new ≡ sets column.old n (map (λ h. cond (le (get_or values.now h nan) midpoint)
-        (ratio (get_or values.now h nan) least midpoint) (1_000_000 + ratio (get_or values.now h nan) midpoint greatest))
-        hits.now) }
-{
-    let end = space_for(hits.len(), n, column.len());
-    let mut k = 0;
-    while k < end {
-        let x = values[hits[k] as usize];
-        column[n + k] = place_among(x, least, midpoint, greatest);
-        k += 1;
-    }
-}
-
-// The same where no two ends are flat.
-fn put_rising(
-    values: &[f64],
-    hits: &[u16],
-    least: f64,
-    midpoint: f64,
-    greatest: f64,
-    n: usize,
-    column: &mut [u32],
-)
-    requires by_index { (k : ℕ) → k < length hits.now → get_or hits.now k 0 < length values.now }
-    requires least_value { (le midpoint least ≡ false) × (le greatest midpoint ≡ false) }
-    ensures { column.new ≡ sets column.old n (map (λ h. cond (le (get_or values.now h nan) midpoint)
-        (ratio (get_or values.now h nan) least midpoint) (1_000_000 + ratio (get_or values.now h nan) midpoint greatest))
-        hits.now) }
-{
-    let lower = midpoint - least;
-    let upper = greatest - midpoint;
-    let end = space_for(hits.len(), n, column.len());
-    let mut k = 0;
-    while k < end {
-        let x = values[hits[k] as usize];
-        column[n + k] = place_rising(x, least, midpoint, lower, upper);
-        k += 1;
-    }
-}
 
 // The places of the regions' numbers among three ends.
 fn put_places(
@@ -77,10 +27,17 @@ fn put_places(
         hits.now) }
 {
     if (midpoint <= least) | (greatest <= midpoint) {
-        put_each_place(values, hits, least, midpoint, greatest, n, column);
+        put_each(hits, n, column, |hit| {
+            place_among(values[hit as usize], least, midpoint, greatest)
+        });
         return;
     }
-    put_rising(values, hits, least, midpoint, greatest, n, column);
+    // No half is flat.
+    let lower = midpoint - least;
+    let upper = greatest - midpoint;
+    put_each(hits, n, column, |hit| {
+        place_rising(values[hit as usize], least, midpoint, lower, upper)
+    });
 }
 
 // The colours at ratios.
@@ -88,12 +45,7 @@ fn put_blends(ppms: &[u32], first: Rgb, last: Rgb, n: usize, column: &mut [u32])
     ensures { column.new ≡ sets column.old n
         (map (λ p. packed (interpolate_rgb first last (min p 1_000_000))) ppms.now) }
 {
-    let end = space_for(ppms.len(), n, column.len());
-    let mut k = 0;
-    while k < end {
-        column[n + k] = blended(first, last, ppms[k]);
-        k += 1;
-    }
+    put_each(ppms, n, column, |ppm| blended(first, last, ppm));
 }
 
 // The colours at places among three.
@@ -108,12 +60,9 @@ fn put_blends_among(
     ensures { column.new ≡ sets column.old n (map (λ p. packed (cond (leb p 1_000_000)
         (interpolate_rgb first middle p) (interpolate_rgb middle last (min (p - 1_000_000) 1_000_000)))) places.now) }
 {
-    let end = space_for(places.len(), n, column.len());
-    let mut k = 0;
-    while k < end {
-        column[n + k] = blended_among(first, middle, last, places[k]);
-        k += 1;
-    }
+    put_each(places, n, column, |place| {
+        blended_among(first, middle, last, place)
+    });
 }
 
 // The colours of a scale of two, of at most 64 marks.
@@ -180,6 +129,7 @@ pub(crate) fn put_scale2(
 {
     let end = space_for(hits.len(), n, column.len());
     let mut k = 0;
+    // in steps of 64, the last one shorter, each at its place in the column
     while k < end {
         let to = if end - k < 64 { end } else { k + 64 };
         put_some2(
@@ -216,6 +166,7 @@ pub(crate) fn put_scale3(
 {
     let end = space_for(hits.len(), n, column.len());
     let mut k = 0;
+    // in steps of 64, the last one shorter, each at its place in the column
     while k < end {
         let to = if end - k < 64 { end } else { k + 64 };
         put_some3(

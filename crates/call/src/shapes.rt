@@ -7,7 +7,7 @@ ghost use Rattle.std.proofs.lemmas.List.Edits.{sets};
 ghost use Rattle.model.specs.Ratio.{normalized, shape_number};
 ghost use Rattle.hits.specs.Painted.{shape_by};
 
-use crate::marks::{put_same, space_for};
+use crate::stores::{put_each, put_same};
 use model::Test;
 use ratio::{shape_number, shape_of};
 
@@ -40,13 +40,9 @@ fn put_halves(
     ensures { column.new ≡ sets column.old n
         (map (λ h. cond (le (get_or values.now h nan) midpoint) lower upper) hits.now) }
 {
-    let end = space_for(hits.len(), n, column.len());
-    let mut k = 0;
-    while k < end {
-        let x = values[hits[k] as usize];
-        column[n + k] = half_of(x, midpoint, lower, upper);
-        k += 1;
-    }
+    put_each(hits, n, column, |hit| {
+        half_of(values[hit as usize], midpoint, lower, upper)
+    });
 }
 
 pub(crate) fn put_shapes(test: Test, values: &[f64], hits: &[u16], n: usize, column: &mut [u32])

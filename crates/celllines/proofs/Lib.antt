@@ -1,5 +1,5 @@
+pub mod Told
 pub mod Values
-pub mod Cells
 pub mod Sections
 pub mod Whole
 pub mod Examples

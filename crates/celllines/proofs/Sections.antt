@@ -2,7 +2,7 @@
 -- Assumes nothing.
 use Prim.Native.Nat.{ℕ, suc, ◌+◌, ◌-◌, ◌≤◌, ◌<◌}
 use mathlib.Core.Path.{◌≡◌, refl, sym, ap, ◌∙◌, subst}
-use mathlib.Core.Bool.{true, false, not}
+use Rattle.std.specs.Prelude.{Result, Ok, Err}
 use mathlib.Core.List.{List, ◌∷◌, ◌++◌}
 use native.Mathlib.Omega.{arith}
 use lib.ListN.{length, set, length-set, length-append}
@@ -14,7 +14,7 @@ use Rattle.grammar.specs.Gram.Got.{got, bad}
 use Rattle.grammar.specs.Parts.{then, times_p}
 use Rattle.grammar.proofs.Times.{times_next}
 use Rattle.fields.specs.Room.{Room}
-use Rattle.fields.proofs.Laws.{clash}
+use Rattle.fields.specs.declared.Malformed.{Malformed}
 use Rattle.fields.proofs.Room.{room_past}
 use Rattle.jobtext.specs.Written.{CellLine}
 use Rattle.jobtext.specs.Text.{cell_line}
@@ -23,7 +23,7 @@ use Rattle.jobtext.proofs.Text.{cell_exact}
 use Rattle.jobtext.proofs.Lengths.{cell_length}
 use Rattle.celllines.specs.declared.ReadCell.{ReadCell}
 use Rattle.celllines.specs.declared.LinesRead.{LinesRead}
-use Rattle.celllines.specs.Lines.{IsCell, CellStored}
+use Rattle.celllines.specs.Lines.{cell_of, CellStored}
 use Rattle.celllines.specs.Columns.{columns, stored_cell, CellsLeft, left_of, IsLeft}
 
 pub columns_eq : {a b c d e f g a' b' c' d' e' f' g' : List ℕ} → a ≡ a' → b ≡ b' → c ≡ c' → d ≡ d' → e ≡ e' → f ≡ f' → g ≡ g'
@@ -85,39 +85,49 @@ module _ (i u : ℕ) (c : CellLine) (d : CellColumns) (pool : List ℕ) where
 module _ {s : List ℕ} {at n used : ℕ} {d₀ : CellColumns} {pool₀ : List ℕ} {d : CellColumns} {pool : List ℕ} {q u i : ℕ}
     (w : Rest s at n used d₀ pool₀ d pool q u i) where
   pub rest_done : n ≤ i
-      → IsLeft (left_of 0 used (times_p n cell_line.parse s at) d₀ pool₀) (record { ok = true; next = q; used = u }) d pool
+      → IsLeft (left_of 0 used (times_p n cell_line.parse s at) d₀ pool₀) (Ok (record { next = q; used = u })) d pool
   unfolding times_p columns_from ats_from cell_bytes
   rest_done h =
       let z : n - i ≡ 0 = omega arith in
       let y : u + 0 ≡ u = omega arith in
       let l = w.wide in
-      subst (λ (l : CellsLeft). IsLeft l (record { ok = true; next = q; used = u }) d pool) w.same
+      subst (λ (l : CellsLeft). IsLeft l (Ok (record { next = q; used = u })) d pool) w.same
       (rw (z, y) (refl, refl, λ k. w.stored (omega arith)))
 
-  pub rest_stopped : (c : ReadCell) (r : LinesRead) (e : CellColumns) (after : List ℕ) → i < n → not c.ok ≡ true
-      → IsCell (cell_line.parse s q) u c → r ≡ record { ok = false; next = c.next; used = 0 }
-      → IsLeft (left_of 0 used (times_p n cell_line.parse s at) d₀ pool₀) r e after
-  rest_stopped c r e after h x k y =
+  pub rest_stopped : {m : Malformed} (r : Result LinesRead Malformed) (e : CellColumns) (after : List ℕ) → i < n
+      → Err m ≡ cell_of u (cell_line.parse s q) → r ≡ Err m → IsLeft (left_of 0 used (times_p n cell_line.parse s at) d₀ pool₀) r e after
+  rest_stopped {m} r e after h k y =
       subst (λ (l : CellsLeft). IsLeft l r e after) w.same
       (rw (times_next n i cell_line.parse s q h) (go (cell_line.parse s q) k))
     where
-      go : (g : Got CellLine) → IsCell g u c
+      go : (g : Got CellLine) → Err m ≡ cell_of u g
           → IsLeft (left_of i u (then g (λ a k. then (times_p (n - (i + 1)) cell_line.parse s k) (λ l e. got (a ∷ l) e))) d w.whole) r
           e after
-      go (got a p) k = clash true (not c.ok) refl (ap (λ (b : ReadCell). not b.ok) k) (sym x)
-      go (bad p) k = y ∙ rw k.1
+      go (got a p) k = absurd (cc)
+      go (bad p) k = let z : m ≡ record { at = p } = cc in rw z at y
 
-  pub rest_next : (c : ReadCell) (e : CellColumns) (after : List ℕ) → i < n → not c.ok ≡ false
-      → IsCell (cell_line.parse s q) u c → CellStored (cell_line.parse s q) u pool after → length after ≡ length pool
+  pub rest_next : {c : ReadCell} (e : CellColumns) (after : List ℕ) → i < n → Ok c ≡ cell_of u (cell_line.parse s q)
+      → CellStored (cell_line.parse s q) u pool after → length after ≡ length pool
       → e ≡ stored_cell i c d → Rest s at n used d₀ pool₀ e after c.next c.used (i + 1)
-  rest_next c e after h x k y m z = go (cell_line.parse s q) refl k y
+  rest_next {c} e after h k y m z = go (cell_line.parse s q) refl k y
     where
-      go : (g : Got CellLine) → cell_line.parse s q ≡ g → IsCell g u c → CellStored g u pool after
+      go : (g : Got CellLine) → cell_line.parse s q ≡ g → Ok c ≡ cell_of u g → CellStored g u pool after
           → Rest s at n used d₀ pool₀ e after c.next c.used (i + 1)
-      go (got a p) f k y =
+      go (got a p) f j y =
           let l = w.long in
           let b = value_bytes a.value in
           let deep = w.deep in
+          let k : c ≡ record {
+            row = a.row;
+            col = a.col;
+            kind = kind_of a.value;
+            wraps = a.wraps;
+            num = num_of a.value;
+            at = at_of u a.value;
+            len = len_of a.value;
+            next = p;
+            used = u + length (value_bytes a.value);
+          } = cc in
           let more : Got (List CellLine) = times_p (n - (i + 1)) cell_line.parse s p in
           let t : times_p (n - i) cell_line.parse s q ≡ then more (λ l e. got (a ∷ l) e) =
           times_next n i cell_line.parse s q h
@@ -141,4 +151,4 @@ module _ {s : List ℕ} {at n used : ℕ} {d₀ : CellColumns} {pool₀ : List �
             };
             deep = m ∙ deep;
           })
-      go (bad p) f k y = clash true (not c.ok) refl x (sym (ap not k.0))
+      go (bad p) f j y = absurd (cc)

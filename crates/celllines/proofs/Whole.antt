@@ -2,6 +2,8 @@
 use Prim.Native.Nat.{ℕ, suc, ◌+◌, ◌≤◌}
 use mathlib.Core.Path.{◌≡◌, refl, sym, ap, ◌∙◌}
 use mathlib.Core.Bool.{Bool, true, false, ◌&&◌}
+use Rattle.std.specs.Prelude.{Result, Ok, Err}
+use Rattle.std.specs.List.{list_all}
 use mathlib.Core.List.{List, [], ◌∷◌, map}
 use native.Mathlib.Omega.{arith}
 use lib.Dec.{leb}
@@ -16,7 +18,7 @@ use Rattle.grammar.specs.Gram.Got.{got, bad}
 use Rattle.grammar.specs.Parts.{times_p}
 use Rattle.grammar.proofs.Parts.{times_exact, times_length}
 use Rattle.fields.specs.Room.{Room, roomy}
-use Rattle.fields.proofs.Laws.{clash}
+use Rattle.fields.specs.declared.Malformed.{Malformed}
 use Rattle.fields.proofs.Room.{roomy_room}
 use Rattle.jobtext.specs.Written.{CellLine}
 use Rattle.jobtext.specs.Text.{cell_line}
@@ -48,9 +50,24 @@ blank_long d e l = rw (l.rows, l.cols, l.kinds, l.wraps, l.nums, l.ats, l.lens)
 
 -- ---- what fits
 
+assoc : (a b c : Bool) → (a && (b && c)) ≡ ((a && b) && c)
+assoc true b c = refl
+assoc false b c = refl
+
+alone_so : (a : Bool) → (a && true) ≡ a
+alone_so true = refl
+alone_so false = refl
+
+-- what `within` says of seven columns
+pub within_held : (n : ℕ) (d : CellColumns)
+    → list_all (λ size. leb n size)
+    (length d.rows ∷ length d.cols ∷ length d.kinds ∷ length d.wraps ∷ length d.nums ∷ length d.ats ∷ length d.lens ∷ [])
+    ≡ held n d
+within_held n d = simp (assoc, alone_so)
+
 both_so : (a b : Bool) → (a && b) ≡ true → (a ≡ true) × (b ≡ true)
 both_so true b e = (refl, e)
-both_so false b e = clash true false refl refl (sym e)
+both_so false b e = cc
 
 -- n cells are within each column
 record Inside (n : ℕ) (d : CellColumns) : Type 0 where
@@ -128,18 +145,12 @@ pages_refused c d =
 
 -- ---- the section
 
--- what the code tests: lines that were read, and columns of the lengths of d
-abbrev held_if : Bool → ℕ → CellColumns → Bool
-held_if ok n d =
-    ok && leb n (length d.rows) && leb n (length d.cols) && leb n (length d.kinds) && leb n (length d.wraps)
-    && leb n (length d.nums) && leb n (length d.ats) && leb n (length d.lens)
-
 module _ (s : List ℕ) (at n used : ℕ) (d : CellColumns) (pool : List ℕ) where
-  abbrev Says : Got (List CellLine) → Section → CellColumns → List ℕ → Type 0
+  abbrev Says : Got (List CellLine) → Result Section Malformed → CellColumns → List ℕ → Type 0
   Says g r e after = (r ≡ section_of used g d pool) × ((e ≡ columns_after used g d pool) × (after ≡ pool_after used g d pool))
 
   pub no_room : {b : Bool} (e : CellColumns) (after : List ℕ) → b ≡ roomy s at used → b ≡ false → e ≡ zero_columns d → after ≡ zeroed pool
-      → Says (cells_at s at n used) (record { ok = false; fits = false; next = at; used = 0 }) e after
+      → Says (cells_at s at n used) (Err (record { at = at })) e after
   unfolding cells_at
   no_room {b} e after x y i j = rw (sym x ∙ y) (refl, (i, j))
 
@@ -149,11 +160,9 @@ module _ (s : List ℕ) (at n used : ℕ) (d : CellColumns) (pool : List ℕ) wh
   number : (cs : List CellLine) (q : ℕ) → lines ≡ got cs q → length cs ≡ n
   number cs q e = times_length cell_line.Ok n cs ((times_exact cell_exact n).ok s at cs q e)
 
-  -- d₁: the columns cleared; d₂ and pool₂: what the lines left; m: all cells are within the columns; f: and the texts within the pool
-  module _ {b : Bool} (x : b ≡ roomy s at used) (y : b ≡ true) (r : LinesRead) (d₁ d₂ : CellColumns) (pool₂ : List ℕ)
-      (m : Bool) {f : Bool} (clean : d₁ ≡ zero_columns d) (i : IsLeft (left_of 0 used lines d₁ pool) r d₂ pool₂)
-      (kept₁ : Long d₁ d) (kept₂ : Long d₂ d₁) (deep : length pool₂ ≡ length pool) (em : m ≡ held_if r.ok n d₂)
-      (ef : f ≡ (m && leb r.used (length pool₂))) where
+  -- d₁: the columns cleared; d₂ and pool₂: what the lines left
+  module _ {b : Bool} (x : b ≡ roomy s at used) (y : b ≡ true) (d₁ d₂ : CellColumns) (pool₂ : List ℕ)
+      (clean : d₁ ≡ zero_columns d) (kept₁ : Long d₁ d) (kept₂ : Long d₂ d₁) (deep : length pool₂ ≡ length pool) where
     long : Long d₂ d
     long = record {
       rows = kept₂.rows ∙ kept₁.rows;
@@ -169,49 +178,63 @@ module _ (s : List ℕ) (at n used : ℕ) (d : CellColumns) (pool : List ℕ) wh
     unfolding cells_at
     in_room = rw (sym x ∙ y)
 
-    fit : f ≡ (held_if r.ok n d && leb r.used (length pool))
-    fit = ef ∙ rw (em, long.rows, long.cols, long.kinds, long.wraps, long.nums, long.ats, long.lens, deep)
-
-    abbrev answer : Section
-    answer = record { ok = r.ok; fits = f; next = r.next; used = r.used }
-
-    pub lines_read : f ≡ true → Says (cells_at s at n used) answer d₂ pool₂
-    lines_read held_so = rw in_room (go lines refl i)
-      where
-        go : (g : Got (List CellLine)) → lines ≡ g → IsLeft (left_of 0 used g d₁ pool) r d₂ pool₂ → Says g answer d₂ pool₂
-        go (got cs q) e i =
-            let k : length cs ≡ n = number cs q e in
-            let u = used + length (cell_bytes cs) in
-            let h : (held (length cs) d && leb u (length pool)) ≡ true = rw k (rw i.0 at (sym fit ∙ held_so)) in
-            let w = both_so (held (length cs) d) (leb u (length pool)) h in
-            let v : u ≤ length pool = leb-true _ _ w.1 in
-            rw h (
-              rw (i.0, held_so),
-              (
-                i.1 ∙ rw clean (pages_alone used cs d (inside (length cs) d w.0)),
-                i.2 (omega (arith, length-sets pool used (cell_bytes cs))) ∙ sym (all_fits 0 pool used (cell_bytes cs) v),
-              ),
-            )
-        go (bad p) e i = clash f false held_so refl (fit ∙ rw i)
-
     -- what was cleared after it had been read into
-    pub lines_refused : (e : CellColumns) (after : List ℕ) → f ≡ false → e ≡ zero_columns d₂ → after ≡ zeroed pool₂
-        → Says (cells_at s at n used) answer e after
-    lines_refused e after held_not j o = rw in_room (go lines refl i)
-      where
-        cleared : after ≡ zeroed pool
-        cleared = o ∙ ap (λ (l : ℕ). replicate l 0) deep
+    module _ (e : CellColumns) (after : List ℕ) (j : e ≡ zero_columns d₂) (o : after ≡ zeroed pool₂) where
+      cleared : after ≡ zeroed pool
+      cleared = o ∙ ap (λ (l : ℕ). replicate l 0) deep
 
-        go : (g : Got (List CellLine)) → lines ≡ g → IsLeft (left_of 0 used g d₁ pool) r d₂ pool₂ → Says g answer e after
-        go (got cs q) t i =
-            let k : length cs ≡ n = number cs q t in
-            let u = used + length (cell_bytes cs) in
-            let h : (held (length cs) d && leb u (length pool)) ≡ false = rw k (rw i.0 at (sym fit ∙ held_not)) in
-            rw h (
-              rw (i.0, held_not),
-              (
-                j ∙ (blank_long d₂ d long ∙ pages_refused (columns_from used cs) d),
-                cleared ∙ sym (all_refused 0 pool used (cell_bytes cs)),
-              ),
-            )
-        go (bad p) t i = (rw (i, held_not), (j ∙ blank_long d₂ d long, cleared))
+      pub lines_refused : {m : Malformed} → IsLeft (left_of 0 used lines d₁ pool) (Err m) d₂ pool₂
+          → Says (cells_at s at n used) (Err m) e after
+      lines_refused {m} i = rw in_room (go lines i)
+        where
+          go : (g : Got (List CellLine)) → IsLeft (left_of 0 used g d₁ pool) (Err m) d₂ pool₂ → Says g (Err m) e after
+          go (got cs q) i = let h = i.0 in absurd (cc)
+          go (bad p) i = let z : m ≡ record { at = p } = cc in (rw z, (j ∙ blank_long d₂ d long, cleared))
+
+    -- h: all cells are within the columns; f: and the texts within the pool
+    module _ (r : LinesRead) {h f : Bool} (i : IsLeft (left_of 0 used lines d₁ pool) (Ok r) d₂ pool₂)
+        (eh : h ≡ held n d₂) (ef : f ≡ (h && leb r.used (length pool₂))) where
+      fit : f ≡ (held n d && leb r.used (length pool))
+      fit = ef ∙ rw (eh, long.rows, long.cols, long.kinds, long.wraps, long.nums, long.ats, long.lens, deep)
+
+      abbrev answer : Section
+      answer = record { fits = f; next = r.next; used = r.used }
+
+      pub lines_read : f ≡ true → Says (cells_at s at n used) (Ok answer) d₂ pool₂
+      lines_read held_so = rw in_room (go lines refl i)
+        where
+          go : (g : Got (List CellLine)) → lines ≡ g → IsLeft (left_of 0 used g d₁ pool) (Ok r) d₂ pool₂ → Says g (Ok answer) d₂ pool₂
+          go (got cs q) e i =
+              let k : length cs ≡ n = number cs q e in
+              let u = used + length (cell_bytes cs) in
+              let j : r ≡ record { next = q; used = u } = let t = i.0 in cc in
+              let h : (held (length cs) d && leb u (length pool)) ≡ true = rw k (rw j at (sym fit ∙ held_so)) in
+              let w = both_so (held (length cs) d) (leb u (length pool)) h in
+              let v : u ≤ length pool = leb-true _ _ w.1 in
+              rw h (
+                rw (j, held_so),
+                (
+                  i.1 ∙ rw clean (pages_alone used cs d (inside (length cs) d w.0)),
+                  i.2 (omega (arith, length-sets pool used (cell_bytes cs))) ∙ sym (all_fits 0 pool used (cell_bytes cs) v),
+                ),
+              )
+          go (bad p) e i = absurd (cc)
+
+      pub lines_unfit : (e : CellColumns) (after : List ℕ) → f ≡ false → e ≡ zero_columns d₂ → after ≡ zeroed pool₂
+          → Says (cells_at s at n used) (Ok answer) e after
+      lines_unfit e after held_not j o = rw in_room (go lines refl i)
+        where
+          go : (g : Got (List CellLine)) → lines ≡ g → IsLeft (left_of 0 used g d₁ pool) (Ok r) d₂ pool₂ → Says g (Ok answer) e after
+          go (got cs q) t i =
+              let k : length cs ≡ n = number cs q t in
+              let u = used + length (cell_bytes cs) in
+              let y : r ≡ record { next = q; used = u } = let t = i.0 in cc in
+              let h : (held (length cs) d && leb u (length pool)) ≡ false = rw k (rw y at (sym fit ∙ held_not)) in
+              rw h (
+                rw (y, held_not),
+                (
+                  j ∙ (blank_long d₂ d long ∙ pages_refused (columns_from used cs) d),
+                  cleared e after j o ∙ sym (all_refused 0 pool used (cell_bytes cs)),
+                ),
+              )
+          go (bad p) t i = absurd (cc)

@@ -1,6 +1,6 @@
 -- What the lines of cells leave in the columns and in the pool: the cells alone in the columns, their texts in the pool, or zeros from
 -- end to end where a line is malformed or not all fits. Assumes nothing.
-use Rattle.std.specs.Prelude.{ℕ, ◌+◌, ◌≤◌, Bool, true, false, ◌&&◌, List, ◌≡◌, leb, length, replicate, set}
+use Rattle.std.specs.Prelude.{ℕ, ◌+◌, ◌≤◌, Bool, true, false, ◌&&◌, List, ◌≡◌, leb, length, replicate, set, Result, Ok, Err}
 use Rattle.std.proofs.lemmas.List.Edits.{sets}
 use Rattle.memory.specs.Memory.{fits, all_or_zeros, page_of}
 use Rattle.model.specs.Sheet.{CellColumns}
@@ -11,6 +11,7 @@ use Rattle.fields.specs.Room.{roomy}
 use Rattle.jobtext.specs.Written.{CellLine}
 use Rattle.jobtext.specs.Text.{cell_line}
 use Rattle.jobtext.specs.Laid.{cell_bytes, columns_from}
+use Rattle.fields.specs.declared.Malformed.{Malformed}
 use Rattle.celllines.specs.declared.ReadCell.{ReadCell}
 use Rattle.celllines.specs.declared.LinesRead.{LinesRead}
 use Rattle.celllines.specs.declared.Section.{Section}
@@ -42,10 +43,10 @@ left_of i u (got cs q) d pool = CellsLeft.done q (u + length (cell_bytes cs)) (o
 left_of i u (bad p) d pool = CellsLeft.stopped p
 
 -- nothing is said of the pool where its texts do not fit
-abbrev pub IsLeft : CellsLeft → LinesRead → CellColumns → List ℕ → Type 0
+abbrev pub IsLeft : CellsLeft → Result LinesRead Malformed → CellColumns → List ℕ → Type 0
 IsLeft (CellsLeft.done q u d pool) r e after =
-    (r ≡ record { ok = true; next = q; used = u }) × (e ≡ d) × (u ≤ length pool → after ≡ pool)
-IsLeft (CellsLeft.stopped p) r e after = r ≡ record { ok = false; next = p; used = 0 }
+    (r ≡ Ok (record { next = q; used = u })) × (e ≡ d) × (u ≤ length pool → after ≡ pool)
+IsLeft (CellsLeft.stopped p) r e after = r ≡ Err (record { at = p })
 
 -- ---- the whole section
 
@@ -74,10 +75,9 @@ held n d =
 abbrev pub all_fit : ℕ → List CellLine → CellColumns → List ℕ → Bool
 all_fit used cs d pool = held (length cs) d && fits (length pool) used (length (cell_bytes cs))
 
-abbrev pub section_of : ℕ → Got (List CellLine) → CellColumns → List ℕ → Section
-section_of used (got cs q) d pool =
-    record { ok = true; fits = all_fit used cs d pool; next = q; used = used + length (cell_bytes cs) }
-section_of used (bad p) d pool = record { ok = false; fits = false; next = p; used = 0 }
+abbrev pub section_of : ℕ → Got (List CellLine) → CellColumns → List ℕ → Result Section Malformed
+section_of used (got cs q) d pool = Ok (record { fits = all_fit used cs d pool; next = q; used = used + length (cell_bytes cs) })
+section_of used (bad p) d pool = Err (record { at = p })
 
 -- columns of the lengths of d that hold c alone, or zeros from end to end
 abbrev pub pages : Bool → CellColumns → CellColumns → CellColumns

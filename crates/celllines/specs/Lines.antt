@@ -1,19 +1,20 @@
 -- What the readers of cell lines answer for each result of the grammar, and what they leave in the columns and in the pool.
 -- Assumes nothing.
-use Rattle.std.specs.Prelude.{ℕ, ◌+◌, ◌≤◌, true, false, List, ◌≡◌, length}
+use Rattle.std.specs.Prelude.{ℕ, ◌+◌, ◌≤◌, List, ◌≡◌, length, Result, Ok, Err}
 use Rattle.std.proofs.lemmas.List.Edits.{sets}
 use Rattle.grammar.specs.Gram.{Got}
 use Rattle.grammar.specs.Gram.Got.{got, bad}
 use Rattle.jobtext.specs.Written.{Value, CellLine}
 use Rattle.jobtext.specs.Laid.{value_bytes, kind_of, num_of, at_of, len_of}
+use Rattle.fields.specs.declared.Malformed.{Malformed}
 use Rattle.celllines.specs.declared.ReadValue.{ReadValue}
 use Rattle.celllines.specs.declared.ReadCell.{ReadCell}
 
--- a value whose text, if it has one, goes to u in the pool; nothing is said of the other fields where none was read
-abbrev pub IsValue : Got Value → ℕ → ReadValue → Type 0
-IsValue (got v q) u r =
-    r ≡ record { ok = true; kind = kind_of v; num = num_of v; at = at_of u v; len = len_of v; next = q; used = u + length (value_bytes v) }
-IsValue (bad p) u r = (r.ok ≡ false) × (r.next ≡ p)
+-- a value whose text, if it has one, goes to u in the pool
+abbrev pub value_of : ℕ → Got Value → Result ReadValue Malformed
+value_of u (got v q) =
+    Ok (record { kind = kind_of v; num = num_of v; at = at_of u v; len = len_of v; next = q; used = u + length (value_bytes v) })
+value_of u (bad p) = Err (record { at = p })
 
 -- a pool with bytes at u, where they fit; nothing is said of it where they do not
 abbrev pub Stored : List ℕ → ℕ → List ℕ → List ℕ → Type 0
@@ -23,10 +24,9 @@ abbrev pub ValueStored : Got Value → ℕ → List ℕ → List ℕ → Type 0
 ValueStored (got v q) u pool after = Stored pool u (value_bytes v) after
 ValueStored (bad p) u pool after = Unit {0}
 
-abbrev pub IsCell : Got CellLine → ℕ → ReadCell → Type 0
-IsCell (got c q) u r =
-    r ≡ record {
-      ok = true;
+abbrev pub cell_of : ℕ → Got CellLine → Result ReadCell Malformed
+cell_of u (got c q) =
+    Ok (record {
       row = c.row;
       col = c.col;
       kind = kind_of c.value;
@@ -36,8 +36,8 @@ IsCell (got c q) u r =
       len = len_of c.value;
       next = q;
       used = u + length (value_bytes c.value);
-    }
-IsCell (bad p) u r = (r.ok ≡ false) × (r.next ≡ p)
+    })
+cell_of u (bad p) = Err (record { at = p })
 
 abbrev pub CellStored : Got CellLine → ℕ → List ℕ → List ℕ → Type 0
 CellStored (got c q) u pool after = Stored pool u (value_bytes c.value) after

@@ -1,22 +1,19 @@
 // Cell lines of a job text, into lent columns, with the texts into a lent pool.
 #![tactic(auto)]
 
-mod stores;
-
-ghost use Rattle.std.specs.Prelude.{◌+◌, false, ◌&&◌, ◌≡◌, leb, length, replicate};
+ghost use Rattle.std.specs.Prelude.{◌≡◌, length, replicate, set};
 ghost use Rattle.grammar.specs.Parts.{times_p};
 ghost use Rattle.fields.specs.Room.{Room};
 ghost use Rattle.jobtext.specs.Fields.{value};
 ghost use Rattle.jobtext.specs.Text.{cell_line};
 ghost use Rattle.celllines.specs.Columns.{columns, stored_cell, left_of, IsLeft, zero_columns, cells_at, section_of, columns_after, pool_after};
-ghost use Rattle.celllines.specs.Lines.{IsValue, ValueStored, IsCell, CellStored};
+ghost use Rattle.celllines.specs.Lines.{value_of, ValueStored, cell_of, CellStored};
 
-use fields::Field;
+use fields::Malformed;
 
 // A value as the columns hold it, the place after it, and up to where the pool is then used.
 #[derive(Clone, Copy)]
 struct ReadValue {
-    ok: bool,
     kind: u8,
     num: u64,
     at: u32,
@@ -27,7 +24,6 @@ struct ReadValue {
 
 #[derive(Clone, Copy)]
 struct ReadCell {
-    ok: bool,
     row: u32,
     col: u16,
     kind: u8,
@@ -39,10 +35,9 @@ struct ReadCell {
     used: usize,
 }
 
-// The place after some lines, and up to where the pool is then used; or the place at which they cannot be read on.
+// The place after some lines, and up to where the pool is then used.
 #[derive(Clone, Copy)]
 struct LinesRead {
-    ok: bool,
     next: usize,
     used: usize,
 }
@@ -50,110 +45,88 @@ struct LinesRead {
 // The same, and whether all cells fit the columns and their texts the pool.
 #[derive(Clone, Copy)]
 pub struct Section {
-    pub ok: bool,
     pub fits: bool,
     pub next: usize,
     pub used: usize,
 }
 
-fn plain(f: Field, kind: u8, num: u64, len: u32, used: usize) -> ReadValue
-    ensures { result ≡ record { ok = f.ok; kind = kind; num = num; at = 0; len = len; next = f.next; used = used } }
+// A value with no text in the pool.
+fn plain(kind: u8, num: u64, len: u32, next: usize, used: usize) -> ReadValue
+    ensures { result ≡ record { kind = kind; num = num; at = 0; len = len; next = next; used = used } }
 {
     ReadValue {
-        ok: f.ok,
         kind,
         num,
         at: 0,
         len,
-        next: f.next,
+        next,
         used,
     }
 }
 
 // A value with the end of its line.
-fn read_value(s: &[u8], at: usize, pool: &mut [u8], used: usize) -> ReadValue
+#[tactic(auto, using(crate::proofs::Told::reads), unfolding(jobtext::specs::Fields::value, grammar::specs::Parts::bytes, jobtext::specs::Laid::value_bytes, jobtext::specs::Laid::kind_of, jobtext::specs::Laid::num_of, jobtext::specs::Laid::at_of, jobtext::specs::Laid::len_of))]
+fn read_value(s: &[u8], at: usize, pool: &mut [u8], used: usize) -> Result<ReadValue, Malformed>
     requires { Room s.now at used }
-    ensures value { IsValue (value.parse s.now at) used result }
+    ensures value { result ≡ value_of used (value.parse s.now at) }
     ensures value_stored { ValueStored (value.parse s.now at) used pool.old pool.new }
 {
-    let n = fields::byte(s, at, b'n');
-    if n.ok {
-        let f = fields::bits(s, n.next, b'\n');
-        return plain(f, 1, f.value, 0, used);
+    if let Ok(n) = fields::byte(s, at, b'n') {
+        let number = fields::bits(s, n, b'\n')?;
+        return Ok(plain(1, number.value, 0, number.next, used));
     }
-    let d = fields::byte(s, at, b'd');
-    if d.ok {
-        let f = fields::bits(s, d.next, b'\n');
-        return plain(f, 2, f.value, 0, used);
+    if let Ok(d) = fields::byte(s, at, b'd') {
+        let date = fields::bits(s, d, b'\n')?;
+        return Ok(plain(2, date.value, 0, date.next, used));
     }
-    let t = fields::byte(s, at, b't');
-    if t.ok {
-        let f = fields::text(s, t.next, b'\n', pool, used);
-        return ReadValue {
-            ok: f.ok,
+    if let Ok(t) = fields::byte(s, at, b't') {
+        let text = fields::text(s, t, b'\n', pool, used)?;
+        return Ok(ReadValue {
             kind: 3,
             num: 0,
             at: used as u32,
-            len: f.length as u32,
-            next: f.next,
-            used: used + f.length as usize,
-        };
+            len: text.length as u32,
+            next: text.next,
+            used: used + text.length,
+        });
     }
-    let b = fields::byte(s, at, b'b');
-    if b.ok {
-        let f = fields::either_word(s, b.next, b"0\n", b"1\n");
-        return plain(f, 4, 0, f.value as u32, used);
+    if let Ok(b) = fields::byte(s, at, b'b') {
+        let bool = fields::either_word(s, b, b"0\n", b"1\n")?;
+        return Ok(plain(4, 0, u32::from(bool.second), bool.next, used));
     }
-    let e = fields::word(s, at, b"e\n");
-    plain(e, 5, 0, 0, used)
+    let next = fields::word(s, at, b"e\n")?;
+    Ok(plain(5, 0, 0, next, used))
 }
 
-fn no_cell(next: usize) -> ReadCell
-    ensures { (result.ok ≡ false) × (result.next ≡ next) }
-{
-    ReadCell {
-        ok: false,
-        row: 0,
-        col: 0,
-        kind: 0,
-        wraps: 0,
-        num: 0,
-        at: 0,
-        len: 0,
-        next,
-        used: 0,
-    }
-}
-
-fn read_cell(s: &[u8], at: usize, pool: &mut [u8], used: usize) -> ReadCell
+#[tactic(auto, using(crate::proofs::Told::reads), unfolding(jobtext::specs::Text::cell_line))]
+fn read_cell(s: &[u8], at: usize, pool: &mut [u8], used: usize) -> Result<ReadCell, Malformed>
     requires { Room s.now at used }
-    ensures cell { IsCell (cell_line.parse s.now at) used result }
+    ensures cell { result ≡ cell_of used (cell_line.parse s.now at) }
     ensures cell_stored { CellStored (cell_line.parse s.now at) used pool.old pool.new }
 {
-    let row = fields::decimal(s, at, 4294967295, b' ');
-    if !row.ok {
-        return no_cell(row.next);
-    }
-    let col = fields::decimal(s, row.next, 65535, b' ');
-    if !col.ok {
-        return no_cell(col.next);
-    }
-    let wraps = fields::decimal(s, col.next, 255, b' ');
-    if !wraps.ok {
-        return no_cell(wraps.next);
-    }
-    let v = read_value(s, wraps.next, pool, used);
-    ReadCell {
-        ok: v.ok,
+    let row = fields::decimal(s, at, 4294967295, b' ')?;
+    let col = fields::decimal(s, row.next, 65535, b' ')?;
+    let wraps = fields::decimal(s, col.next, 255, b' ')?;
+    let value = read_value(s, wraps.next, pool, used)?;
+    Ok(ReadCell {
         row: row.value as u32,
         col: col.value as u16,
-        kind: v.kind,
+        kind: value.kind,
         wraps: wraps.value as u8,
-        num: v.num,
-        at: v.at,
-        len: v.len,
-        next: v.next,
-        used: v.used,
+        num: value.num,
+        at: value.at,
+        len: value.len,
+        next: value.next,
+        used: value.used,
+    })
+}
+
+// Stores a value at an index, where there is room. Private: past the end it keeps what was lent, and its callers clear that.
+fn store<T: Copy>(column: &mut [T], i: usize, x: T)
+    ensures { column.new ≡ set column.old i x }
+{
+    if i < column.len() {
+        column[i] = x;
     }
 }
 
@@ -171,13 +144,13 @@ fn store_cell(
 )
     ensures { columns rows.new cols.new kinds.new wraps.new nums.new ats.new lens.new ≡ stored_cell i c (columns rows.old cols.old kinds.old wraps.old nums.old ats.old lens.old) }
 {
-    stores::put_u32(rows, i, c.row);
-    stores::put_u16(cols, i, c.col);
-    stores::put_u8(kinds, i, c.kind);
-    stores::put_u8(wraps, i, c.wraps);
-    stores::put_u64(nums, i, c.num);
-    stores::put_u32(ats, i, c.at);
-    stores::put_u32(lens, i, c.len);
+    store(rows, i, c.row);
+    store(cols, i, c.col);
+    store(kinds, i, c.kind);
+    store(wraps, i, c.wraps);
+    store(nums, i, c.num);
+    store(ats, i, c.at);
+    store(lens, i, c.len);
 }
 
 // Lines of cells, from index 0 on, where there is room.
@@ -194,34 +167,21 @@ fn read_lines(
     ats: &mut [u32],
     lens: &mut [u32],
     pool: &mut [u8],
-) -> LinesRead
+) -> Result<LinesRead, Malformed>
     requires { Room s.now at used }
     ensures { IsLeft (left_of 0 used (times_p number cell_line.parse s.now at)
         (columns rows.old cols.old kinds.old wraps.old nums.old ats.old lens.old) pool.old)
         result (columns rows.new cols.new kinds.new wraps.new nums.new ats.new lens.new) pool.new }
 {
-    let mut q = at;
-    let mut u = used;
-    let mut i = 0;
-    while i < number {
-        let c = read_cell(s, q, pool, u);
-        if !c.ok {
-            return LinesRead {
-                ok: false,
-                next: c.next,
-                used: 0,
-            };
-        }
-        store_cell(i, c, rows, cols, kinds, wraps, nums, ats, lens);
-        q = c.next;
-        u = c.used;
-        i += 1;
+    let mut next = at;
+    let mut end = used;
+    for i in 0..number {
+        let cell = read_cell(s, next, pool, end)?;
+        store_cell(i, cell, rows, cols, kinds, wraps, nums, ats, lens);
+        next = cell.next;
+        end = cell.used;
     }
-    LinesRead {
-        ok: true,
-        next: q,
-        used: u,
-    }
+    Ok(LinesRead { next, used: end })
 }
 
 // Zeros from end to end.
@@ -236,13 +196,13 @@ fn clear_columns(
 )
     ensures { columns rows.new cols.new kinds.new wraps.new nums.new ats.new lens.new ≡ zero_columns (columns rows.old cols.old kinds.old wraps.old nums.old ats.old lens.old) }
 {
-    lent::clear_u32(rows);
-    lent::clear_u16(cols);
-    lent::clear_u8(kinds);
-    lent::clear_u8(wraps);
-    lent::clear_u64(nums);
-    lent::clear_u32(ats);
-    lent::clear_u32(lens);
+    rows.fill(0);
+    cols.fill(0);
+    kinds.fill(0);
+    wraps.fill(0);
+    nums.fill(0);
+    ats.fill(0);
+    lens.fill(0);
 }
 
 // The same, and of the pool.
@@ -260,40 +220,7 @@ pub fn clear_cells(
     ensures pool_after { pool.new ≡ replicate (length pool.old) 0 }
 {
     clear_columns(rows, cols, kinds, wraps, nums, ats, lens);
-    lent::clear_u8(pool);
-}
-
-fn within(ok: bool, number: usize, size: usize) -> bool
-    ensures { result ≡ (ok && leb number size) }
-{
-    if ok {
-        return number <= size;
-    }
-    false
-}
-
-// Whether a number of cells are within columns of these lengths.
-fn all_within(
-    ok: bool,
-    number: usize,
-    rows: usize,
-    cols: usize,
-    kinds: usize,
-    wraps: usize,
-    nums: usize,
-    ats: usize,
-    lens: usize,
-) -> bool
-    ensures { result ≡ (ok && leb number rows && leb number cols && leb number kinds && leb number wraps && leb number nums
-        && leb number ats && leb number lens) }
-{
-    let a = within(ok, number, rows);
-    let b = within(a, number, cols);
-    let c = within(b, number, kinds);
-    let d = within(c, number, wraps);
-    let e = within(d, number, nums);
-    let f = within(e, number, ats);
-    within(f, number, lens)
+    pool.fill(0);
 }
 
 // Lines of cells alone in the columns, with their texts into the pool from `used` on. Where a line is malformed, the text is longer than
@@ -311,7 +238,7 @@ pub fn read_cells(
     ats: &mut [u32],
     lens: &mut [u32],
     pool: &mut [u8],
-) -> Section
+) -> Result<Section, Malformed>
     ensures value { result ≡ section_of used (cells_at s.now at number used) (columns rows.old cols.old kinds.old wraps.old nums.old ats.old lens.old) pool.old }
     ensures lens_after { (columns rows.new cols.new kinds.new wraps.new nums.new ats.new lens.new
         ≡ columns_after used (cells_at s.now at number used)
@@ -321,36 +248,35 @@ pub fn read_cells(
 {
     if !fields::has_room(s, at, used) {
         clear_cells(rows, cols, kinds, wraps, nums, ats, lens, pool);
-        return Section {
-            ok: false,
-            fits: false,
-            next: at,
-            used: 0,
-        };
+        return Err(Malformed { at });
     }
     clear_columns(rows, cols, kinds, wraps, nums, ats, lens);
-    let r = read_lines(
+    match read_lines(
         s, at, number, used, rows, cols, kinds, wraps, nums, ats, lens, pool,
-    );
-    let held = all_within(
-        r.ok,
-        number,
-        rows.len(),
-        cols.len(),
-        kinds.len(),
-        wraps.len(),
-        nums.len(),
-        ats.len(),
-        lens.len(),
-    );
-    let fits = within(held, r.used, pool.len());
-    if !fits {
-        clear_cells(rows, cols, kinds, wraps, nums, ats, lens, pool);
-    }
-    Section {
-        ok: r.ok,
-        fits,
-        next: r.next,
-        used: r.used,
+    ) {
+        Ok(lines) => {
+            let sizes = [
+                rows.len(),
+                cols.len(),
+                kinds.len(),
+                wraps.len(),
+                nums.len(),
+                ats.len(),
+                lens.len(),
+            ];
+            let fits = fields::within(number, &sizes) && lines.used <= pool.len();
+            if !fits {
+                clear_cells(rows, cols, kinds, wraps, nums, ats, lens, pool);
+            }
+            Ok(Section {
+                fits,
+                next: lines.next,
+                used: lines.used,
+            })
+        }
+        Err(malformed) => {
+            clear_cells(rows, cols, kinds, wraps, nums, ats, lens, pool);
+            Err(malformed)
+        }
     }
 }

@@ -1,11 +1,12 @@
 -- What a reference reads as by an entry of a table of places, and that a sheet's regions do not count for an operand. Assumes nothing.
+use Rattle.std.specs.Prelude.{Some, None}
 use Prim.Native.Nat.{ℕ}
 use mathlib.Core.Path.{◌≡◌, refl, ap}
 use mathlib.Core.List.{List}
 use Rattle.model.specs.declared.CellCoordinate.{CellCoordinate}
 use Rattle.model.specs.declared.Range.{Range}
 use Rattle.model.specs.declared.A1Reference.{A1Reference}
-use Rattle.model.specs.declared.Referenced.{Referenced}
+use Rattle.model.specs.Options.{Referenced}
 use Rattle.model.specs.declared.Span.{Span}
 use Rattle.model.specs.declared.ConditionalOperand.{ConditionalOperand as Operand}
 use Rattle.model.specs.Sheet.{Sheet, CellColumns}
@@ -21,8 +22,8 @@ module _ (c : CellColumns) (pool : List ℕ) (name : Span) where
 
   referenced_named : (x : Referenced) → numeric_of (cell_named c (entry_referenced c.rows c.cols x)) ≡ numeric_referenced sheet x
   unfolding entry_referenced numeric_referenced numeric_at cell_named
-  referenced_named (Referenced.At at) = ap numeric_of (entry_named c at)
-  referenced_named Referenced.Nowhere = refl
+  referenced_named (Some at) = ap numeric_of (entry_named c at)
+  referenced_named None = refl
 
   module _ (range : Range) (target : CellCoordinate) where
     pub meant_reference : (f : A1Reference) (entry : ℕ)
@@ -39,8 +40,8 @@ module _ (s : Sheet) where
 
   bare_numeric : (at : Referenced) → numeric_referenced bare at ≡ numeric_referenced s at
   unfolding numeric_referenced
-  bare_numeric (Referenced.At at) = refl
-  bare_numeric Referenced.Nowhere = refl
+  bare_numeric (Some at) = refl
+  bare_numeric None = refl
 
   pub resolved_bare : (range : Range) (target : CellCoordinate) (operand : Operand)
       → resolved (sheet_with s.cells s.pool s.name) range target operand ≡ resolved s range target operand

@@ -1,12 +1,11 @@
 -- Short names for contracts over the seven cell columns: the columns as one record, the cells that they hold, the place of the cell
 -- at a coordinate, tables of places, and a sheet without regions. Assumes nothing.
-use Rattle.std.specs.Prelude.{ℕ, zero, suc, cond, List, [], ltb, length, get_or}
+use Rattle.std.specs.Prelude.{ℕ, zero, suc, cond, List, [], ltb, length, get_or, None, Some}
 use Rattle.std.proofs.Math.Option.{Option, none, some}
 use Rattle.model.specs.declared.Cell.{Cell}
 use Rattle.model.specs.declared.CellCoordinate.{CellCoordinate}
 use Rattle.model.specs.declared.ConditionalOperand.{ConditionalOperand}
-use Rattle.model.specs.declared.Reading.{Reading}
-use Rattle.model.specs.declared.Referenced.{Referenced}
+use Rattle.model.specs.Options.{Reading, Referenced}
 use Rattle.model.specs.declared.Span.{Span}
 use Rattle.model.specs.Sheet.{CellAt, Sheet, CellColumns, same_coordinate, cell_from, cells_from}
 use Rattle.model.specs.Readings.{numeric_of}
@@ -48,14 +47,14 @@ cell_named c (suc place) = cond (ltb place (length c.rows)) (some (cell_from c p
 
 -- the entry for what a reference means
 unfoldable pub entry_referenced : List ℕ → List ℕ → Referenced → ℕ
-entry_referenced rows cols (Referenced.At at) = entry_at rows cols at
-entry_referenced rows cols Referenced.Nowhere = 0
+entry_referenced rows cols (Some at) = entry_at rows cols at
+entry_referenced rows cols None = 0
 
 -- what an operand reads as, by the entry for the cell that it means
 unfoldable pub operand_named : CellColumns → ConditionalOperand → ℕ → Reading
 operand_named c (ConditionalOperand.Literal x) entry = literal x
 operand_named c (ConditionalOperand.Reference f) entry = numeric_of (cell_named c entry)
-operand_named c ConditionalOperand.Unread entry = Reading.Nothing
+operand_named c ConditionalOperand.Unread entry = None
 
 -- an operand needs of a sheet its cells, its pool and its name
 abbrev pub sheet_with : List CellAt → List ℕ → Span → Sheet

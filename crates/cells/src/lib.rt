@@ -9,6 +9,7 @@ use model::Cell;
 use readings::number::cell_value;
 
 // The cell at an index, wherever it stands.
+#[tactic(auto, unfolding(model::specs::Sheet::cell_from))]
 pub fn cell_from(
     kinds: &[u8],
     wraps: &[u8],
@@ -22,11 +23,11 @@ pub fn cell_from(
 {
     Cell {
         value: cell_value(
-            lent::at_u8(kinds, i),
-            lent::at_u64(nums, i),
-            lent::at_u32(ats, i),
-            lent::at_u32(lens, i),
+            lent::at(kinds, i, 0),
+            lent::at(nums, i, 0),
+            lent::at(ats, i, 0),
+            lent::at(lens, i, 0),
         ),
-        wraps: lent::at_u8(wraps, i),
+        wraps: lent::at(wraps, i, 0),
     }
 }

@@ -1,32 +1,34 @@
 -- The three outcomes of a charge, each from the order of the raised count, 2^64 and the limit; and so many evaluations at once.
 -- Assumes nothing.
+use Rattle.charging.specs.declared.ChargeError.{ChargeError}
+use Rattle.std.specs.Prelude.{Ok, Err}
 use Prim.Native.Nat.{ℕ, zero, suc, ◌+◌, ◌≤◌, ◌<◌, ◌^◌}
 use native.Mathlib.Omega.{arith}
 use native.Mathlib.Decide.{dec_le, dec_lt}
 use mathlib.Core.Path.{◌≡◌, ap, ◌∙◌}
 use lib.ListN.{replicate}
 use borrow.Author.Tests.{lt-ltb, le-ltb, le-leb, lt-leb}
-use Rattle.charging.specs.declared.Charged.{Charged}
+use Rattle.charging.specs.Charge.{Charged}
 use Rattle.charging.specs.Charge.{Charge, one, size, counter, stored, charge, and_then, spend}
 
 module _ (limit count : ℕ) (e : Charge) where
-  pub charge_overflows : 2 ^ 64 ≤ count + size e → charge limit count e ≡ Charged.CoordinateOverflow (counter count)
+  pub charge_overflows : 2 ^ 64 ≤ count + size e → charge limit count e ≡ Err (ChargeError.CoordinateOverflow (counter count))
   unfolding charge
   charge_overflows past = simp (le-ltb _ _ past)
 
   pub charge_exceeds : count + size e < 2 ^ 64 → limit < count + size e
-      → charge limit count e ≡ Charged.LimitExceeded (counter (stored count e)) (count + size e)
+      → charge limit count e ≡ Err (ChargeError.LimitExceeded (counter (stored count e)) (count + size e))
   unfolding charge
   charge_exceeds fits over = simp (lt-ltb _ _ fits, lt-leb _ _ over)
 
-  pub charge_within : count + size e < 2 ^ 64 → count + size e ≤ limit → charge limit count e ≡ Charged.Within (counter (count + size e))
+  pub charge_within : count + size e < 2 ^ 64 → count + size e ≤ limit → charge limit count e ≡ Ok (counter (count + size e))
   unfolding charge
   charge_within fits under = simp (lt-ltb _ _ fits, le-leb _ _ under)
 
 -- ---- evaluations one after the other
 
 abbrev within : ℕ → Charged
-within count = Charged.Within (counter count)
+within count = Ok (counter count)
 
 -- up to the limit they are accepted
 pub ones_within : (limit n count : ℕ) → limit < 2 ^ 64 → count + n ≤ limit → spend limit count (replicate n one) ≡ within (count + n)

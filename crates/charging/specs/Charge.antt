@@ -1,9 +1,13 @@
 -- Charging: what one charge does to the counter, and a list of charges under a limit (document 01, 'Charging').
 -- Assumes nothing.
-use Rattle.std.specs.Prelude.{ℕ, ◌+◌, ◌^◌, cond, List, [], ◌∷◌, leb, ltb}
+use Rattle.std.specs.Prelude.{Result, Ok, Err, ℕ, ◌+◌, ◌^◌, cond, List, [], ◌∷◌, leb, ltb}
 use Rattle.charging.specs.declared.Counter.{Counter}
-use Rattle.charging.specs.declared.Charged.{Charged}
-use Rattle.charging.specs.declared.Charged.TheVariants.{Within, LimitExceeded, CoordinateOverflow}
+use Rattle.charging.specs.declared.ChargeError.{ChargeError}
+use Rattle.charging.specs.declared.ChargeError.TheVariants.{LimitExceeded, CoordinateOverflow}
+
+-- the counter that an accepted charge leaves, or what a refused one says
+abbrev pub Charged : Type 0
+Charged = Result Counter ChargeError
 
 -- one evaluation, or the whole area of a range at once
 pub data Charge : Type 0 where
@@ -26,18 +30,17 @@ stored count (area n) = count
 unfoldable pub charge : ℕ → ℕ → Charge → Charged
 charge limit count e =
     cond (ltb (count + size e) (2 ^ 64))
-    (cond (leb (count + size e) limit) (Within (counter (count + size e))) (LimitExceeded (counter (stored count e)) (count + size e)))
-    (CoordinateOverflow (counter count))
+    (cond (leb (count + size e) limit) (Ok (counter (count + size e))) (Err (LimitExceeded (counter (stored count e)) (count + size e))))
+    (Err (CoordinateOverflow (counter count)))
 
 -- the next step, from the count that an accepted charge leaves; the first charge that is not accepted ends it
 unfoldable pub and_then : Charged → (ℕ → Charged) → Charged
-and_then (Within c) next = next c.count
-and_then (LimitExceeded c actual) next = LimitExceeded c actual
-and_then (CoordinateOverflow c) next = CoordinateOverflow c
+and_then (Ok c) next = next c.count
+and_then (Err e) next = Err e
 
 -- charges made one after the other
 unfoldable pub spend : ℕ → ℕ → List Charge → Charged
-spend limit count [] = Within (counter count)
+spend limit count [] = Ok (counter count)
 spend limit count (e ∷ es) = and_then (charge limit count e) (λ c. spend limit c es)
 
 -- what the charges come to without a limit, in unbounded whole numbers

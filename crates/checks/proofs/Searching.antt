@@ -1,72 +1,89 @@
--- One turn of a search for the first index at which a test holds: found here, passed, or ended. `whole` is what the search finds from
--- its start on, and stays what it finds from i on. First of the numbers below n, then of a job's rules. Assumes nothing.
-use Prim.Native.Nat.{ℕ, suc, ◌+◌, ◌-◌, ◌≤◌, ◌<◌, min}
+-- Searches for the first index at which a test holds: among the numbers below n, by a loop that tells whether there is one and by `find`,
+-- and among a job's rules. Assumes nothing.
+use Rattle.std.specs.Prelude.{Some, None, Option as Optional}
+use Rattle.std.specs.List.{position_or_len, find, range_with_len}
+use Rattle.std.specs.Option.{option_map}
+use Prim.Native.Nat.{ℕ, zero, suc, ◌+◌, ◌-◌, ◌≤◌, ◌<◌}
 use mathlib.Core.Path.{◌≡◌, refl, sym, ap, ◌∙◌}
-use mathlib.Core.Bool.{Bool, true, false, ◌||◌, true≢false}
-use mathlib.Core.List.{List, ◌∷◌, map}
-use mathlib.Core.Option.{Option}
-use native.Mathlib.Numerals.{add-one}
+use mathlib.Core.Bool.{Bool, true, false, cond, not, ◌||◌, true≢false}
+use mathlib.Core.List.{List, [], ◌∷◌}
+use mathlib.Core.Option.{Option, some}
+use native.Mathlib.Nat.{add-zero, zero-add}
+use native.Mathlib.Numerals.{add-one, one-add}
 use native.Mathlib.Omega.{arith}
-use lib.ListN.{length, take, drop, get_or, drop_of_length-le, length-take, length-map}
-use lib.Seq.{drop-cons, get_or-take}
+use Rattle.std.proofs.lemmas.Bool.{cases_lt, lt-ltb, le-ltb}
+use mathlib.Core.Logic.{inl, inr}
+use lib.Dec.{ltb}
+use lib.ListN.{length}
 use Rattle.model.specs.declared.Rule.{Rule}
 use Rattle.model.specs.Job.{first_from, bad_kind, first_bad_rule}
-use Rattle.checks.specs.declared.Found.{Found}
 use Rattle.checks.specs.Checked.{found}
 
+-- ---- a loop that has come to i
+
 module _ (test : ℕ → Bool) (n i : ℕ) {whole : Option ℕ} (same : first_from test i (n - i) ≡ whole) where
-  numbers_left : i < n → n - i ≡ suc (n - suc i)
-  numbers_left h = omega arith
-
-  pub number_found : i < n → test i ≡ true → Found.At i ≡ found whole
+  number_passed : i < n → test i ≡ false → first_from test (i + 1) (n - (i + 1)) ≡ whole
   unfolding first_from
-  number_found h e = ap found (rw (numbers_left h, e) at same)
+  number_passed h e = let left : n - i ≡ suc (n - suc i) = omega arith in rw add-one (rw (left, e) at same)
 
-  pub number_passed : i < n → test i ≡ false → first_from test (i + 1) (n - (i + 1)) ≡ whole
-  unfolding first_from
-  number_passed h e = rw add-one (rw (numbers_left h, e) at same)
-
-  pub numbers_ended : n ≤ i → Found.Nothing ≡ found whole
+  pub numbers_ended : n ≤ i → None ≡ found whole
   unfolding first_from
   numbers_ended h = let e : n - i ≡ 0 = omega arith in ap found (rw e at same)
 
--- a search for whether there is any: `bad` says whether the test held at one that was passed
+-- `bad` says whether the test held at one that was passed
 pub none_passed : (test : ℕ → Bool) (n i : ℕ) {whole : Option ℕ} (bad : Bool) {here : Bool}
     → (bad ≡ false → first_from test i (n - i) ≡ whole) → i < n → here ≡ test i → bad || here ≡ false
     → first_from test (i + 1) (n - (i + 1)) ≡ whole
 none_passed test n i true same h e o = absurd (true≢false o)
 none_passed test n i false same h e o = number_passed test n i (same refl) h (sym e ∙ o)
 
-module _
-    (pool : List ℕ)
-    (records : List Rule)
-    (number i : ℕ)
-    (d : Rule)
-    {whole : Option ℕ}
-    (same : first_bad_rule pool i (drop i (take number records)) ≡ whole)
+-- ---- what `find` answers over the numbers
+
+same_option : {X : Type 0} (o : Optional X) → option_map (λ x. x) o ≡ o
+same_option None = refl
+same_option (Some x) = refl
+
+found_from : (test : ℕ → Bool) (i n : ℕ) → find test (range_with_len i n) ≡ found (first_from test i n)
+unfolding first_from
+found_from test i zero = refl
+found_from test i (suc n) = rw (add-one i) (go (test i) (found_from test (suc i) n))
   where
-    rule_next : i < length records → i < number → drop i (take number records) ≡ get_or records i d ∷ drop (suc i) (take number records)
-    rule_next h k =
-        let below : i < length (take number records) = simp length-take (omega arith) in
-        drop-cons (take number records) i d below ∙ ap (λ r. r ∷ drop (suc i) (take number records)) (get_or-take number records i d k)
+    go : (t : Bool) → find test (range_with_len (suc i) n) ≡ found (first_from test (suc i) n)
+        → cond t (Some i) (find test (range_with_len (suc i) n)) ≡ found (cond t (some i) (first_from test (suc i) n))
+    go true e = refl
+    go false e = e
 
-    pub rule_found : i < length records → i < number → bad_kind pool (get_or records i d).kind ≡ true → Found.At i ≡ found whole
-    unfolding first_bad_rule
-    rule_found h k e = ap found (rw (rule_next h k, e) at same)
+pub find_first : (test : ℕ → Bool) (i n : ℕ) {r : Optional ℕ} → option_map (λ x. x) r ≡ find test (range_with_len i n) → r ≡ found (first_from test i n)
+find_first test i n {r} e = sym (same_option r) ∙ e ∙ found_from test i n
 
-    pub rule_passed : i < length records → i < number → bad_kind pool (get_or records i d).kind ≡ false
-        → first_bad_rule pool (i + 1) (drop (i + 1) (take number records)) ≡ whole
-    unfolding first_bad_rule
-    rule_passed h k e = rw add-one (rw (rule_next h k, e) at same)
+-- ---- among a job's rules
 
--- past the number, and past the records
-pub rules_ended : (pool : List ℕ) (records : List Rule) (number i : ℕ) {whole : Option ℕ}
-    → first_bad_rule pool i (drop i (take number records)) ≡ whole → min number (length records) ≤ i → Found.Nothing ≡ found whole
+-- how many rules come before the first that is bad
+abbrev pub good : List ℕ → List Rule → ℕ
+good pool rs = position_or_len (λ (r : Rule). bad_kind pool r.kind) rs
+
+ltb_both : (p n : ℕ) → ltb (suc p) (suc n) ≡ ltb p n
+ltb_both p n =
+    elim (cases_lt p n) [
+      | inl h ↦ lt-ltb (suc p) (suc n) (omega arith) ∙ sym (lt-ltb p n h)
+      | inr h ↦ le-ltb (suc p) (suc n) (omega arith) ∙ sym (le-ltb p n h)
+    ]
+
+-- the first bad rule, the rules counted from i on
+rule_from : (pool : List ℕ) (i : ℕ) (rs : List Rule)
+    → cond (ltb (good pool rs) (length rs)) (Some (i + good pool rs)) None ≡ found (first_bad_rule pool i rs)
 unfolding first_bad_rule
-rules_ended pool records number i same h =
-    let below : length (take number records) ≤ i = simp length-take h in
-    ap found (rw (drop_of_length-le (take number records) below) at same)
+rule_from pool i [] = refl
+rule_from pool i (r ∷ rs) = go (bad_kind pool r.kind) (rule_from pool (suc i) rs)
+  where
+    go : (t : Bool)
+        → cond (ltb (good pool rs) (length rs)) (Some (suc i + good pool rs)) None ≡ found (first_bad_rule pool (suc i) rs)
+        → cond (ltb (cond (not t) (1 + good pool rs) 0) (suc (length rs))) (Some (i + cond (not t) (1 + good pool rs) 0)) None
+        ≡ found (cond t (some i) (first_bad_rule pool (suc i) rs))
+    go true e = rw (add-zero, lt-ltb 0 (suc (length rs)) (omega arith))
+    go false e = let along : i + (1 + good pool rs) ≡ suc i + good pool rs = omega arith in rw along (rw (one-add, ltb_both) e)
 
--- of an array of structs in a struct, what owning it tells is the length of the list of its elements' parts
-pub length_mapped : (X Y : Type 0) (f : X → Y) (l : List X) (n : ℕ) → length (map f l) ≡ n → length l ≡ n
-length_mapped X Y f l n e = sym (length-map l f) ∙ e
+-- what `position` answers
+pub first_rule : (pool : List ℕ) (rs : List Rule)
+    → cond (ltb (good pool rs) (length rs)) (Some (good pool rs)) None ≡ found (first_bad_rule pool 0 rs)
+first_rule pool rs = rw zero-add at (rule_from pool 0 rs)

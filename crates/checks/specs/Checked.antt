@@ -1,38 +1,36 @@
 -- What the checks find and answer, said of the definition's values. Assumes nothing.
-use Rattle.std.specs.Prelude.{ℕ, List, [], ◌∷◌}
+use Rattle.std.specs.Prelude.{ℕ, List, [], ◌∷◌, Result, Ok, Err, Option as Optional, Some, None, ⊤}
 use Rattle.std.proofs.Math.Option.{Option, none, some}
 use Rattle.model.specs.declared.Span.{Span}
 use Rattle.model.specs.declared.Rules.{Rules}
 use Rattle.model.specs.Sheet.{CellColumns}
-use Rattle.model.specs.Answer.{Summary, refusal, summary}
+use Rattle.model.specs.Answer.{Summary, refused_by}
 use Rattle.model.specs.Job.{Job, Lengths, first_of, malformed, space_short}
-use Rattle.checks.specs.declared.Found.{Found}
-use Rattle.checks.specs.declared.Checked.{Checked}
+use Rattle.model.specs.declared.Refusal.{Refusal}
+
+-- the index at which a search stops, if it does
+abbrev pub Found : Type 0
+Found = Optional ℕ
+
+-- nothing to refuse, or the refusal
+abbrev pub Checked : Type 0
+Checked = Result ⊤ Refusal
 
 -- the index that a search of the definition gives
 abbrev pub found : Option ℕ → Found
-found none = Found.Nothing
-found (some i) = Found.At i
+found none = None
+found (some i) = Some i
 
 -- the refusal that an answer of the checks stands for
 abbrev pub turned_back : Checked → Option Summary
-turned_back Checked.Fine = none
-turned_back (Checked.Refused a) = some (summary a)
-
--- the refusal with this number at the index that was found: place, S, 0
-abbrev pub refused_at : ℕ → ℕ → Found → Option Summary
-refused_at number start Found.Nothing = none
-refused_at number start (Found.At i) = some (refusal number i start 0)
+turned_back (Ok done) = none
+turned_back (Err r) = some (refused_by r)
 
 -- ---- the job of lent columns
 
 abbrev pub cell_columns : List ℕ → List ℕ → List ℕ → List ℕ → List ℕ → List ℕ → List ℕ → CellColumns
 cell_columns rows cols kinds wraps nums ats lens =
     record { rows = rows; cols = cols; kinds = kinds; wraps = wraps; nums = nums; ats = ats; lens = lens }
-
--- the columns that check 3 reads of a cell; wraps and nums have no part in it
-abbrev pub read_columns : List ℕ → List ℕ → List ℕ → List ℕ → List ℕ → CellColumns
-read_columns rows cols kinds ats lens = cell_columns rows cols kinds [] [] ats lens
 
 abbrev pub job_of : CellColumns → List ℕ → List ℕ → List ℕ → Span → Rules → ℕ → Job
 job_of cells region_rows region_cols pool name rules start =

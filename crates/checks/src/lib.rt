@@ -1,14 +1,17 @@
 // The checks 1 to 6 over lent columns (document 01, 'Turned back').
 #![tactic(auto)]
 
-ghost use Rattle.std.specs.Prelude.{◌≡◌, cond, [], ◌∷◌};
+ghost use Rattle.std.specs.Prelude.{◌≡◌, cond};
+ghost use Rattle.std.specs.Option.{MatchOption, ForSome};
+ghost use Rattle.std.specs.Result.{IsErrAnd};
 ghost use Rattle.std.proofs.Math.Option.{none, some};
-ghost use Rattle.model.specs.Answer.{refusal, summary};
-ghost use Rattle.model.specs.Job.{first_of, outside as isOutside, malformed as malformedAs};
-ghost use Rattle.checks.specs.Checked.{turned_back, refused_at, cell_columns, job_of, space_of, refusal_of};
+ghost use Rattle.model.specs.Answer.{refused_by};
+ghost use Rattle.model.specs.Job.{malformed as malformedAs};
+ghost use Rattle.model.specs.Lent.{job_lent};
+ghost use Rattle.checks.specs.Checked.{turned_back, space_of, refusal_of};
 
 use lengths::{lengths_differ, space_short, too_many};
-use model::{Answer, Rules, Span};
+use model::{LentJob, Refusal};
 use names::{first_bad_rule, outside};
 use sheet::{first_bad_cell, first_bad_region, first_fall};
 
@@ -16,188 +19,70 @@ pub mod lengths;
 pub mod names;
 pub mod sheet;
 
-// The first index at which a test holds.
-#[derive(Clone, Copy)]
-pub enum Found {
-    At(usize),
-    Nothing,
-}
-
-// A refusal ahead of any charge, or none.
-#[derive(Clone, Copy)]
-pub enum Checked {
-    Fine,
-    Refused(Answer),
-}
-
-impl Checked {
-    // The first refusal.
-    fn or(self, later: Checked) -> Checked
-        ensures { turned_back result ≡ first_of (turned_back self ∷ turned_back later ∷ []) }
-    {
-        match self {
-            Checked::Refused(answer) => Checked::Refused(answer),
-            Checked::Fine => later,
-        }
-    }
-}
-
 // A refusal where a check is met.
-fn refuse_if(met: bool, answer: Answer) -> Checked
-    ensures { turned_back result ≡ cond met (some (summary answer)) none }
+fn refuse_if(met: bool, refusal: Refusal) -> Result<(), Refusal>
+    ensures { turned_back result ≡ cond met (some (refused_by refusal)) none }
 {
-    if met {
-        Checked::Refused(answer)
-    } else {
-        Checked::Fine
-    }
+    if met { Err(refusal) } else { Ok(()) }
 }
 
-// 3
-fn out_of_bounds(found: Found, start: u64) -> Checked
-    ensures { turned_back result ≡ refused_at 3 start found }
+// A refusal at the index that a search found, if it did.
+fn refuse_at<F: FnOnce(u64) -> Refusal>(found: Option<usize>, refusal: F) -> Result<(), Refusal>
+    requires { ForSome found (F.pre refusal) }
+    ensures { MatchOption found (result ≡ Ok tt) (λ i. IsErrAnd result (F.post refusal i)) }
 {
     match found {
-        Found::At(i) => Checked::Refused(Answer::OutOfBounds {
-            place: i as u64,
-            count: start,
-        }),
-        Found::Nothing => Checked::Fine,
+        Some(place) => Err(refusal(place as u64)),
+        None => Ok(()),
     }
-}
-
-// 4
-fn not_rising(found: Found, start: u64) -> Checked
-    ensures { turned_back result ≡ refused_at 4 start found }
-{
-    match found {
-        Found::At(i) => Checked::Refused(Answer::NotRising {
-            place: i as u64,
-            count: start,
-        }),
-        Found::Nothing => Checked::Fine,
-    }
-}
-
-// 5
-fn name_outside(found: Found, start: u64) -> Checked
-    ensures { turned_back result ≡ refused_at 5 start found }
-{
-    match found {
-        Found::At(i) => Checked::Refused(Answer::NameOutside {
-            place: i as u64,
-            count: start,
-        }),
-        Found::Nothing => Checked::Fine,
-    }
-}
-
-// Check 5 of the sheet's name.
-fn check_sheet_name(pool: &[u8], name: Span, start: u64) -> Checked
-    ensures { turned_back result ≡ cond (isOutside pool.now name) (some (refusal 5 64 start 0)) none }
-{
-    refuse_if(
-        outside(pool, name),
-        Answer::NameOutside {
-            place: 64,
-            count: start,
-        },
-    )
 }
 
 // The checks 1 to 5 in their order: a job is well-formed where none of them is met.
-pub fn malformed(
-    rows: &[u32],
-    cols: &[u16],
-    kinds: &[u8],
-    wraps: &[u8],
-    nums: &[u64],
-    ats: &[u32],
-    lens: &[u32],
-    region_rows: &[u32],
-    region_cols: &[u16],
-    pool: &[u8],
-    name: Span,
-    rules: Rules,
-    start: u64,
-) -> Checked
-    ensures { turned_back result ≡ malformedAs
-        (job_of
-        (cell_columns rows.now cols.now kinds.now wraps.now nums.now
-        ats.now lens.now)
-        region_rows.now region_cols.now pool.now name rules start) }
+#[tactic(auto, unfolding(model::specs::Answer::refused_by, model::specs::Job::malformed, model::specs::Job::first_of, model::specs::Job::refuse_if, model::specs::Job::refuse_at, model::specs::Job::rules_of, model::specs::Job::lengths_differ, model::specs::Job::too_many))]
+pub fn malformed(job: LentJob<'_>) -> Result<(), Refusal>
+    ensures { turned_back result ≡ malformedAs (job_lent job.entry) }
 {
+    let count = job.start;
+    let cells = job.cells.rows.len();
+    let regions = job.regions.rows.len();
     let differ = lengths_differ(
-        rows.len(),
-        cols.len(),
-        kinds.len(),
-        wraps.len(),
-        nums.len(),
-        ats.len(),
-        lens.len(),
-        region_rows.len(),
-        region_cols.len(),
+        cells,
+        job.cells.cols.len(),
+        job.cells.kinds.len(),
+        job.cells.wraps.len(),
+        job.cells.nums.len(),
+        job.cells.ats.len(),
+        job.cells.lens.len(),
+        regions,
+        job.regions.cols.len(),
     );
-    let lengths = refuse_if(differ, Answer::LengthsDiffer { count: start });
-    let over = too_many(rows.len(), region_rows.len(), rules.number, pool.len());
-    let counts = refuse_if(over, Answer::TooMany { count: start });
-    let cells = out_of_bounds(first_bad_cell(rows, cols, kinds, ats, lens, pool), start);
-    let regions = out_of_bounds(first_bad_region(region_rows, region_cols), start);
-    let cell_order = not_rising(first_fall(rows, cols), start);
-    let region_order = not_rising(first_fall(region_rows, region_cols), start);
-    let references = name_outside(first_bad_rule(pool, rules), start);
-    let sheet_name = check_sheet_name(pool, name, start);
-    lengths
-        .or(counts)
-        .or(cells)
-        .or(regions)
-        .or(cell_order)
-        .or(region_order)
-        .or(references)
-        .or(sheet_name)
+    refuse_if(differ, Refusal::LengthsDiffer { count })?;
+    let many = too_many(cells, regions, job.rules.number, job.pool.len());
+    refuse_if(many, Refusal::TooMany { count })?;
+    let out_of_bounds = |place| Refusal::OutOfBounds { place, count };
+    refuse_at(first_bad_cell(job.cells, job.pool), out_of_bounds)?;
+    refuse_at(first_bad_region(job.regions), out_of_bounds)?;
+    let not_rising = |place| Refusal::NotRising { place, count };
+    refuse_at(first_fall(job.cells.rows, job.cells.cols), not_rising)?;
+    refuse_at(first_fall(job.regions.rows, job.regions.cols), not_rising)?;
+    let name_outside = |place| Refusal::NameOutside { place, count };
+    refuse_at(first_bad_rule(job.pool, job.rules), name_outside)?;
+    refuse_if(outside(job.pool, job.name), name_outside(64))
 }
 
 // The checks 1 to 6 in their order. `bar_rules`, `bar_ppms` and `scratch` are lengths of columns lent for writing.
+#[tactic(auto, unfolding(model::specs::Answer::refused_by, crate::specs::Checked::refusal_of, model::specs::Job::first_of, model::specs::Job::refuse_if, model::specs::Job::space_short))]
 pub fn check(
-    rows: &[u32],
-    cols: &[u16],
-    kinds: &[u8],
-    wraps: &[u8],
-    nums: &[u64],
-    ats: &[u32],
-    lens: &[u32],
-    region_rows: &[u32],
-    region_cols: &[u16],
-    pool: &[u8],
-    name: Span,
-    rules: Rules,
-    start: u64,
+    job: LentJob<'_>,
     bar_rules: usize,
     bar_ppms: usize,
     scratch: usize,
-) -> Checked
-    ensures { turned_back result ≡ refusal_of
-        (job_of
-        (cell_columns rows.now cols.now kinds.now wraps.now nums.now
-        ats.now lens.now)
-        region_rows.now region_cols.now pool.now name rules start)
-        (space_of bar_rules bar_ppms scratch) }
+) -> Result<(), Refusal>
+    ensures { turned_back result ≡ refusal_of (job_lent job.entry) (space_of bar_rules bar_ppms scratch) }
 {
-    let form = malformed(
-        rows,
-        cols,
-        kinds,
-        wraps,
-        nums,
-        ats,
-        lens,
-        region_rows,
-        region_cols,
-        pool,
-        name,
-        rules,
-        start,
-    );
-    let short = space_short(rows.len(), region_rows.len(), bar_rules, bar_ppms, scratch);
-    form.or(refuse_if(short, Answer::SpaceShort { count: start }))
+    malformed(job)?;
+    let cells = job.cells.rows.len();
+    let regions = job.regions.rows.len();
+    let short = space_short(cells, regions, bar_rules, bar_ppms, scratch);
+    refuse_if(short, Refusal::SpaceShort { count: job.start })
 }

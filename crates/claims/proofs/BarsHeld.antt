@@ -12,7 +12,7 @@ use lib.ListN.{length, get_or, take}
 use borrow.Author.Tests.{leb-true, leb-false}
 use Rattle.memory.specs.Memory.{page_length}
 use Rattle.memory.proofs.Laws.{text_over}
-use Rattle.model.specs.declared.Answer.{Answer}
+use Rattle.model.specs.Options.{Answer}
 use Rattle.model.specs.declared.CellCoordinate.{CellCoordinate}
 use Rattle.model.specs.declared.Rule.{Rule}
 use Rattle.model.specs.Sheet.{Sheet}
@@ -31,7 +31,6 @@ use Rattle.barlaws.proofs.Regions.{state_at}
 use Rattle.barlaws.proofs.Jobs.{job_bars}
 use Rattle.jobtext.specs.Written.{JobText}
 use Rattle.jobtext.specs.Read.{ReadResult}
-use Rattle.jobtext.specs.Text.{job}
 use Rattle.jobtext.specs.Laid.{laid}
 use Rattle.jobtext.specs.Decided.{whole_space, rules_read, decided}
 use Rattle.reporttext.specs.Report as Report

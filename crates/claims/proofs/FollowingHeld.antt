@@ -1,25 +1,23 @@
 -- Each claim of specs/Following.antt, held. Assumes nothing.
-use Prim.Native.Nat.{ℕ, ◌-◌, ◌≤◌, ◌<◌}
+use Rattle.std.specs.Prelude.{None}
+use Prim.Native.Nat.{ℕ, ◌≤◌, ◌<◌}
 use native.Mathlib.Omega.{arith}
 use mathlib.Core.Path.{◌≡◌, refl, sym, ap, ◌∙◌}
 use mathlib.Core.Logic.{◌⊎◌, inl, inr, ◌↔◌}
 use mathlib.Core.Bool.{Bool, true, false}
 use mathlib.Core.List.{List, [], ◌∷◌}
-use mathlib.Core.Option.{none}
-use lib.Dec.{leb}
 use lib.ListN.{length, get_or}
 use borrow.Author.Tests.{le-leb}
 use Rattle.model.specs.declared.CellCoordinate.{CellCoordinate}
-use Rattle.model.specs.Sheet.{CellColumns, same_coordinate, cell_at, cell_from, regions_from}
-use Rattle.model.specs.Job.{Job, rises, first_from, falls_at, first_fall}
+use Rattle.model.specs.Sheet.{CellColumns, same_coordinate, cell_from, regions_from}
+use Rattle.model.specs.Job.{rises, first_from, falls_at, first_fall}
 use Rattle.laws.proofs.Apart.{columns_rise}
 use Rattle.laws.proofs.Lengths.{regions_length}
 use Rattle.cells.specs.Columns.{coordinate_at, entry_at}
 use Rattle.cells.proofs.Laws.{entry_named, named_none, named_found}
 use Rattle.cells.proofs.Standing.{entry_stands}
-use Rattle.places.specs.declared.Walked.{Walked}
 use Rattle.places.specs.Walk.{passed, entry_here, comparisons_for, walk_from, walk, walked, table_of}
-use Rattle.places.specs.Reached.{count, any_of, reached}
+use Rattle.places.specs.Reached.{count, any_of}
 use Rattle.places.proofs.Bounds.{walk_few, walk_fewer}
 use Rattle.places.proofs.Reaching.{walk_exactly, walk_reached}
 use Rattle.places.proofs.Table.{fits_both, table_finds}
@@ -50,7 +48,7 @@ pub walk_refused_exactly : Following.RefusedExactly
 walk_refused_exactly w s before after a e = go (fits s (length before)) refl
   where
     go : (b : Bool) → fits s (length before) ≡ b
-        → (a ≡ Walked.Refused) ↔ ((length before < length s.region_rows) ⊎ (65_535 < length s.cells.rows))
+        → (a ≡ None) ↔ ((length before < length s.region_rows) ⊎ (65_535 < length s.cells.rows))
     go true h = (
       λ r. absurd (refused_other _ (sym (e.0 ∙ compared_fit s (length before) h) ∙ r)),
       λ u. absurd (over u),

@@ -4,17 +4,17 @@ use Prim.Native.Nat.{ℕ, zero, suc}
 use native.Mathlib.Omega.{arith}
 use mathlib.Core.Path.{◌≡◌, refl, sym, ap, ◌∙◌}
 use mathlib.Core.List.{[]}
+use Rattle.std.specs.Prelude.{Ok}
 use contract.Lifetimes.{Lfts}
 use lib.ListN.{replicate}
-use Rattle.model.specs.declared.Answer.{Answer}
+use Rattle.model.specs.Options.{Answer}
 use Rattle.model.specs.Ratio.{zero_f}
-use Rattle.model.specs.Answer.{Summary, Result, answered, summary}
+use Rattle.model.specs.Answer.{totals, Summary, Result, answered, summary}
 use Rattle.model.specs.Job.{Job, run_of, result}
 use Rattle.model.specs.Columns.{Columns, columns_of}
 use Rattle.model.proofs.Computing.{jobs}
 use Rattle.model.proofs.Samples.{samples}
 use Rattle.model.proofs.WorkedJob as Worked
-use Rattle.laws.specs.Demands as Demands
 use Rattle.laws.specs.Demands.{reached, mark_count, lengths_of}
 use Rattle.laws.proofs.Answer.{summary_injective}
 use Rattle.laws.proofs.DemandOne.{demand_one}
@@ -60,7 +60,7 @@ call_demand_one w j limit before after a e =
     }
 
 whole_summary : (j : Job) → (answered (reached j) (run_of j)).summary
-    ≡ summary (Answer.Answered (reached j) (mark_count j) (run_of j).deferred (run_of j).simplified)
+    ≡ summary (Ok (totals (reached j) (mark_count j) (run_of j).deferred (run_of j).simplified))
 unfolding answered summary
 whole_summary j = refl
 
@@ -123,7 +123,7 @@ pub met : Met
 unfolding jobs samples
 met =
     record {
-      somewhere = record { lifetimes = no_lifetimes 19; place = λ i. (i, 0); name = λ i. i };
+      somewhere = record { lifetimes = no_lifetimes 10; place = λ i. (i, 0); name = λ i. i };
       job = Worked.job;
       limit = 11;
       before = used;

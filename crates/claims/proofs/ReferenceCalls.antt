@@ -1,4 +1,7 @@
 -- What the contracts of the reader and the writer of references say in each case. Assumes nothing.
+use Rattle.a1writer.specs.declared.WriteError.{WriteError}
+use Rattle.a1reader.specs.declared.ReadError.{ReadError}
+use Rattle.std.specs.Prelude.{Ok, Err}
 use Prim.Native.Nat.{ℕ, ◌+◌, ◌-◌, ◌≤◌, ◌<◌}
 use native.Mathlib.Omega.{arith}
 use mathlib.Core.Path.{◌≡◌, refl, sym, ap, ◌∙◌}
@@ -21,13 +24,12 @@ use Rattle.jobtext.specs.Said.{name_said, reference_said}
 use Rattle.jobtext.specs.Laid.{name_bytes, name_at, reference_at}
 use Rattle.a1text.specs.A1.{has_text, a1, Spells, operand_read, writable, operand_written}
 use Rattle.a1text.proofs.Operands.{read_spells, spells_read}
-use Rattle.a1reader.specs.declared.ReadReference.{ReadReference}
+use Rattle.a1reader.specs.Answers.{ReadReference}
 use Rattle.a1reader.specs.Answers as Reading
 use Rattle.a1reader.specs.Answers.{read_answer, read_bytes}
-use Rattle.a1writer.specs.declared.WrittenReference.{WrittenReference}
+use Rattle.a1writer.specs.Answers.{WrittenReference}
 use Rattle.a1writer.specs.Answers as Writing
 use Rattle.a1writer.specs.Answers.{write_answer, write_bytes}
-use Rattle.claims.specs.References as References
 use Rattle.claims.specs.References.{Where, Reads, Writes}
 
 -- ---- reading
@@ -36,7 +38,7 @@ pub no_none : {A : Type 0} (a : A) → some a ≡ none → ⊥
 no_none a e = let z : ◌≡◌ {A = ℕ} 0 1 = cc in omega arith
 
 module _ (w : Where) (bytes before after : List ℕ) (a : ReadReference) (e : Reads w bytes before a after) where
-  pub read_none : operand_read bytes ≡ none → (a ≡ ReadReference.NoReference) × (after ≡ replicate (length before) 0)
+  pub read_none : operand_read bytes ≡ none → (a ≡ Err ReadError.NoReference) × (after ≡ replicate (length before) 0)
   unfolding read_answer read_bytes
   read_none o = (
     e.0 ∙ ap (λ (x : Option Reference). read_answer x (length before)) o,
@@ -51,11 +53,11 @@ module _ (w : Where) (bytes before after : List ℕ) (a : ReadReference) (e : Re
       e.1 ∙ ap (λ (x : Option Reference). read_bytes x (length before)) o,
     )
 
-    pub read_fits : length (name_bytes r.name) ≤ length before → a ≡ ReadReference.Read (reference_at 0 r)
+    pub read_fits : length (name_bytes r.name) ≤ length before → a ≡ Ok (reference_at 0 r)
     unfolding read_answer
     read_fits h = read_some.0 ∙ rw (le-leb (length (name_bytes r.name)) (length before) h)
 
-    pub read_long : length before < length (name_bytes r.name) → a ≡ ReadReference.NameTooLong
+    pub read_long : length before < length (name_bytes r.name) → a ≡ Err ReadError.NameTooLong
     unfolding read_answer
     read_long h = read_some.0 ∙ rw (lt-leb (length (name_bytes r.name)) (length before) h)
 
@@ -88,7 +90,7 @@ module _ (w : Where) (r : A1Reference) (pool before after : List ℕ) (a : Writt
   abbrev text : List ℕ
   text = a1.text (reference_said pool r)
 
-  pub write_none : writable pool r ≡ false → (a ≡ WrittenReference.NoReference) × (after ≡ replicate (length before) 0)
+  pub write_none : writable pool r ≡ false → (a ≡ Err WriteError.NoReference) × (after ≡ replicate (length before) 0)
   unfolding operand_written write_answer write_bytes
   write_none o = (rw o at e.0, rw o at e.1)
 
@@ -97,11 +99,11 @@ module _ (w : Where) (r : A1Reference) (pool before after : List ℕ) (a : Writt
     unfolding operand_written write_bytes
     write_some = (rw o at e.0, rw o at e.1)
 
-    pub write_fits : length text ≤ length before → a ≡ WrittenReference.Written (length text)
+    pub write_fits : length text ≤ length before → a ≡ Ok (length text)
     unfolding write_answer
     write_fits h = write_some.0 ∙ rw (le-leb (length text) (length before) h)
 
-    pub write_long : length before < length text → a ≡ WrittenReference.TextTooLong
+    pub write_long : length before < length text → a ≡ Err WriteError.TextTooLong
     unfolding write_answer
     write_long h = write_some.0 ∙ rw (lt-leb (length text) (length before) h)
 
@@ -129,7 +131,7 @@ pub record Told (pool : List ℕ) (r : A1Reference) (before after : List ℕ) (n
   pub text : take n after ≡ a1.text (reference_said pool r)
 
 module _ (w : Where) (r : A1Reference) (pool before after : List ℕ) (n : ℕ)
-    (e : Writes w r pool before (WrittenReference.Written n) after) where
+    (e : Writes w r pool before (Ok n) after) where
   pub written_told : Told pool r before after n
   written_told = go (writable pool r) (leb (length (a1.text (reference_said pool r))) (length before)) refl refl
     where
@@ -138,19 +140,19 @@ module _ (w : Where) (r : A1Reference) (pool before after : List ℕ) (n : ℕ)
       go true true o h =
           let t = a1.text (reference_said pool r) in
           let fits : length t ≤ length before = leb-true _ _ h in
-          let same = write_fits w r pool before after (WrittenReference.Written n) e o fits in
+          let same = write_fits w r pool before after (Ok n) e o fits in
           let k : n ≡ length t = cc in
           record {
             writable = o;
             text = ap (λ (l : List ℕ). take n l)
-                ((write_some w r pool before after (WrittenReference.Written n) e o).1 ∙ (text_fits (length before) t fits).1)
+                ((write_some w r pool before after (Ok n) e o).1 ∙ (text_fits (length before) t fits).1)
                 ∙ (ap (λ (i : ℕ). take i (t ++ replicate (length before - length t) 0)) k ∙ take-append_seam t _);
           }
       go true false o h =
-          let same = write_long w r pool before after (WrittenReference.Written n) e o (leb-false _ _ h) in
+          let same = write_long w r pool before after (Ok n) e o (leb-false _ _ h) in
           let z : ◌≡◌ {A = ℕ} 0 1 = cc in absurd (omega arith)
       go false y o h =
-          let same = (write_none w r pool before after (WrittenReference.Written n) e o).0 in
+          let same = (write_none w r pool before after (Ok n) e o).0 in
           let z : ◌≡◌ {A = ℕ} 0 1 = cc in absurd (omega arith)
 
 -- ---- what was read, with the bytes that were lent for its name
@@ -196,7 +198,7 @@ pub record Found (bytes before after : List ℕ) (r : A1Reference) : Type 0 wher
   pub fits : length (name_bytes reference.name) ≤ length before
   pub name : after ≡ page (length before) (name_bytes reference.name)
 
-module _ (w : Where) (bytes before after : List ℕ) (r : A1Reference) (e : Reads w bytes before (ReadReference.Read r) after) where
+module _ (w : Where) (bytes before after : List ℕ) (r : A1Reference) (e : Reads w bytes before (Ok r) after) where
   pub read_found : Found bytes before after r
   read_found = go (operand_read bytes) refl
     where
@@ -204,21 +206,21 @@ module _ (w : Where) (bytes before after : List ℕ) (r : A1Reference) (e : Read
           → Found bytes before after r
       some_found q o true h =
           let fits = leb-true _ _ h in
-          let same = read_fits w bytes before after (ReadReference.Read r) e q o fits in
+          let same = read_fits w bytes before after (Ok r) e q o fits in
           let is : r ≡ reference_at 0 q = cc in
           record {
             reference = q;
             read = o;
             is = is;
             fits = fits;
-            name = (read_some w bytes before after (ReadReference.Read r) e q o).1;
+            name = (read_some w bytes before after (Ok r) e q o).1;
           }
       some_found q o false h =
-          let same = read_long w bytes before after (ReadReference.Read r) e q o (leb-false _ _ h) in
+          let same = read_long w bytes before after (Ok r) e q o (leb-false _ _ h) in
           let z : ◌≡◌ {A = ℕ} 0 1 = cc in absurd (omega arith)
 
       go : (o : Option Reference) → operand_read bytes ≡ o → Found bytes before after r
       go none o =
-          let same = (read_none w bytes before after (ReadReference.Read r) e o).0 in
+          let same = (read_none w bytes before after (Ok r) e o).0 in
           let z : ◌≡◌ {A = ℕ} 0 1 = cc in absurd (omega arith)
       go (some q) o = some_found q o (leb (length (name_bytes q.name)) (length before)) refl

@@ -1,5 +1,6 @@
 -- Each claim of specs/References.antt, held. Assumes nothing.
-use Prim.Native.Nat.{ℕ, ◌-◌, ◌≤◌}
+use Rattle.std.specs.Prelude.{Ok}
+use Prim.Native.Nat.{ℕ, ◌≤◌}
 use native.Mathlib.Omega.{arith}
 use mathlib.Core.Path.{◌≡◌, refl, sym, ap, ◌∙◌}
 use mathlib.Core.Logic.{◌↔◌}
@@ -9,7 +10,7 @@ use mathlib.Core.Option.{Option, none, some}
 use lib.ListN.{length, take, replicate}
 use Rattle.memory.specs.Memory.{page}
 use Rattle.memory.proofs.Laws.{text_over}
-use Rattle.model.specs.Answer.{refusal, answer}
+use Rattle.model.specs.Answer.{refusal}
 use Rattle.model.specs.Split.{formula, trimmed, left_part, right_part}
 use Rattle.jobtext.specs.Written.{Reference}
 use Rattle.jobtext.specs.Said.{reference_said}
@@ -17,7 +18,7 @@ use Rattle.jobtext.specs.Laid.{name_bytes}
 use Rattle.a1text.specs.A1.{a1, Spells, operand_read, writable, operand_written}
 use Rattle.a1text.proofs.Columns.{column_lettered, text_of_number}
 use Rattle.a1text.proofs.Operands.{read_spells, spells_read, read_has_text, text_read, written_read, one_reference, read_trimmed}
-use Rattle.a1reader.specs.declared.ReadReference.{ReadReference}
+use Rattle.a1reader.specs.Answers.{ReadReference}
 use Rattle.a1reader.specs.Answers as Reading
 use Rattle.a1reader.specs.Answers.{read_answer, read_bytes}
 use Rattle.a1writer.specs.Answers as Writing
@@ -157,7 +158,7 @@ read_again w v u bytes before after before' after' before'' after'' r n b e d c 
     let text : take n after' ≡ a1.text q = t.text ∙ ap (λ (x : Reference). a1.text x) said in
     let again : operand_read (take n after') ≡ some q = ap operand_read text ∙ written_read q h in
     let room : length (name_bytes q.name) ≤ length before'' = omega (arith, f.fits, long) in (
-      read_fits u (take n after') before'' after'' b c q again room ∙ ap ReadReference.Read (sym f.is),
+      read_fits u (take n after') before'' after'' b c q again room ∙ ap Ok (sym f.is),
       (read_some u (take n after') before'' after'' b c q again).1
           ∙ (ap (λ (k : ℕ). page k (name_bytes q.name)) (sym long) ∙ sym f.name),
     )

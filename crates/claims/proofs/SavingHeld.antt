@@ -20,11 +20,12 @@ use Rattle.savedtext.proofs.ReadBack.{read_back}
 use Rattle.savedtext.proofs.Thirteen as thirteens
 use Rattle.savedtext.proofs.Thirteen.{malformed_number, thirteen, thirteen_values, saved_exactly, saved_fits, saved_malformed, saved_zeros, saved_whole}
 use Rattle.savedtext.proofs.WrittenBack as back
-use Rattle.writer.specs.declared.Saved.{Saved}
-use Rattle.writer.specs.Answers.{summary_of, length_of}
+use Rattle.std.specs.Prelude.{Ok, Err}
+use Rattle.writer.specs.declared.SaveError.{SaveError}
+use Rattle.writer.specs.Answers.{Saved, summary_of, length_of}
 use Rattle.claims.specs.Saving as Saving
 use Rattle.claims.specs.Saving.{Where, Ends, IsWritten}
-use Rattle.claims.proofs.Answers.{Told, Checks, malformed_told}
+use Rattle.claims.proofs.Answers.{Turned, Checks, malformed_told}
 
 -- ---- what the contract promises
 
@@ -48,9 +49,9 @@ nothing_asked_of_saving κs a = tt
 pub saving_determined : Saving.Determined
 saving_determined w j limit before after a e = (e.0, e.1.0, e.1.1)
 
-told_some : (o : Option Summary) (s : Summary) → o ≡ some s → Checks o → Told s
+told_some : (o : Option Summary) (s : Summary) → o ≡ some s → Checks o → Turned s
 told_some none s e c = absurd (let no : ◌≡◌ {A = ℕ} 0 1 = cc in omega arith)
-told_some (some x) s e (Checks.met t) = let same : x ≡ s = cc in subst Told same t
+told_some (some x) s e (Checks.met t) = let same : x ≡ s = cc in subst Turned same t
 
 module _ (j : Job) (limit room : ℕ) where
   none_saved : ((saved limit j room).number ≡ 0 → ⊥) → 0 ≡ saved_length limit j room
@@ -75,18 +76,18 @@ saving_possible w j limit before = go (thirteens.saving limit j room)
     go (thirteens.Saving.refused s m is) =
         let t = told_some (malformed j) s m (malformed_told j) in
         let no = none_saved j limit room (λ z. omega (arith, (malformed_number j s m).0, number is)) in
-        record { answer = Saved.Refused t.by; after = saved_bytes limit j room; ends = (t.is ∙ sym is, (no, refl)) }
+        record { answer = Err (SaveError.Refused t.by); after = saved_bytes limit j room; ends = (t.is ∙ sym is, (no, refl)) }
     go (thirteens.Saving.too_long f long is) =
         let no = none_saved j limit room (λ z. omega (arith, number is)) in
         record {
-          answer = Saved.TooLong j.start (length (text_of limit j));
+          answer = Err (SaveError.TooLong j.start (length (text_of limit j)));
           after = saved_bytes limit j room;
           ends = (sym is, (no, refl));
         }
     go (thirteens.Saving.whole f fits most is) =
         let all = all_saved j limit room (number is) in
         record {
-          answer = Saved.Written j.start (length (text_of limit j));
+          answer = Ok (record { count = j.start; length = length (text_of limit j) });
           after = saved_bytes limit j room;
           ends = (sym is, (all, refl));
         }

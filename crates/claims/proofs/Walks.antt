@@ -1,4 +1,5 @@
 -- What the walk answers and leaves, by whether the table is fit for it. Assumes nothing.
+use Rattle.std.specs.Prelude.{Some, None}
 use Prim.Native.Nat.{ℕ, ◌≤◌, ◌<◌}
 use native.Mathlib.Omega.{arith}
 use mathlib.Core.Path.{◌≡◌, refl, sym, ap, ◌∙◌}
@@ -10,13 +11,13 @@ use lib.ListN.{length, get_or, replicate, length-replicate, get_or-eq_default}
 use lib.Seq.{length-sets}
 use borrow.Author.Tests.{leb-false}
 use Rattle.laws.proofs.Lengths.{regions_length}
-use Rattle.places.specs.declared.Walked.{Walked}
+use Rattle.places.specs.Places.{Walked}
 use Rattle.places.specs.Walk.{walk_fits, walk, walked, table_of}
 use Rattle.places.proofs.Bounds.{walk_entries, blank}
 use Rattle.places.proofs.Table.{walked_refused, table_refused, walked_compared, table_compared, table_entry}
 use Rattle.claims.specs.Following.{Sides, cells_on, regions_on}
 
-pub refused_other : (n : ℕ) → Walked.Compared n ≡ Walked.Refused → ⊥
+pub refused_other : (n : ℕ) → Some n ≡ None → ⊥
 refused_other n e = let no : ◌≡◌ {A = ℕ} 0 1 = cc in omega arith
 
 pub unfit : (cells regions room : ℕ) → walk_fits cells regions room ≡ false → (room < regions) ⊎ (65_535 < cells)
@@ -33,14 +34,14 @@ module _ (s : Sides) (room : ℕ) where
   abbrev pub answer : Walked
   answer = walked (cells_on s) (regions_on s) room
 
-  pub refused_unfit : fits ≡ false → answer ≡ Walked.Refused
+  pub refused_unfit : fits ≡ false → answer ≡ None
   refused_unfit = walked_refused s.cells.rows s.cells.cols s.region_rows s.region_cols room
 
-  pub compared_fit : fits ≡ true → answer ≡ Walked.Compared (walk (cells_on s) (regions_on s)).comparisons
+  pub compared_fit : fits ≡ true → answer ≡ Some (walk (cells_on s) (regions_on s)).comparisons
   compared_fit = walked_compared s.cells.rows s.cells.cols s.region_rows s.region_cols room
 
   -- a walk that is not refused had room, and made the comparisons of the definition
-  pub is_compared : (n : ℕ) → Walked.Compared n ≡ answer → (fits ≡ true) × (n ≡ (walk (cells_on s) (regions_on s)).comparisons)
+  pub is_compared : (n : ℕ) → Some n ≡ answer → (fits ≡ true) × (n ≡ (walk (cells_on s) (regions_on s)).comparisons)
   is_compared n e = go fits refl
     where
       go : (b : Bool) → fits ≡ b → (b ≡ true) × (n ≡ (walk (cells_on s) (regions_on s)).comparisons)
@@ -85,7 +86,7 @@ module _ (s : Sides) (room : ℕ) where
       go true h = table_laid h i ∙ get_or-eq_default (walk (cells_on s) (regions_on s)).places 0 entries
       go false h = ap (λ (t : List ℕ). get_or t i 0) (table_zero h) ∙ blank room i
 
-  pub zero_if_refused : answer s room ≡ Walked.Refused → table ≡ replicate room 0
+  pub zero_if_refused : answer s room ≡ None → table ≡ replicate room 0
   zero_if_refused r = go (fits s room) refl
     where
       go : (b : Bool) → fits s room ≡ b → table ≡ replicate room 0

@@ -2,7 +2,7 @@
 -- lines in the report of a whole job. The words are those of crates/barlaws/specs/Origin.antt. proofs/BarsHeld.antt proves them.
 -- Assumes nothing.
 use Rattle.std.specs.Prelude.{ℕ, zero, suc, ◌<◌, ◌≡◌, List, [], ◌++◌, get_or, take}
-use Rattle.model.specs.declared.Answer.{Answer}
+use Rattle.model.specs.Options.{Answer}
 use Rattle.model.specs.Run.{IndexedRule}
 use Rattle.model.specs.Answer.{summary}
 use Rattle.model.specs.Job.{Job, rules_of, region_count, sheet_of}

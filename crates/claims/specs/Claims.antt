@@ -3,36 +3,33 @@
 -- `Pre` and `Post` of a function F of a crate C are made from its `requires` and `ensures`, in the module `Rattle.C.proofs.F.Reads`;
 -- `rt check --generated DIR` in crates/C writes it to DIR/Rattle-C-proofs/F/Reads.antt. That F, called where `Pre` holds, ends where `Post`
 -- holds is the verdict of `rt check` there; here stands what follows from `Post` for every caller. Assumes nothing.
-use Rattle.std.specs.Prelude.{ℕ, ◌+◌, ◌-◌, ◌*◌, ◌^◌, ◌≤◌, ◌<◌, ◌≡◌, ◌↔◌, List, [], ◌∷◌, length, Float}
+use Rattle.std.specs.Prelude.{ℕ, ◌+◌, ◌-◌, ◌*◌, ◌^◌, ◌≤◌, ◌<◌, ◌≡◌, ◌↔◌, List, [], ◌∷◌, length, Float, Ok}
 use contract.Lifetimes.{Lfts}
 use Rattle.std.specs.Borrow.{MutBor}
-use Rattle.model.specs.declared.Answer.{Answer}
-use Rattle.model.specs.declared.Rules.{Rules}
-use Rattle.model.specs.declared.Span.{Span}
-use Rattle.model.specs.Answer.{summary, answered}
+use Rattle.model.specs.Options.{Answer}
+use Rattle.model.specs.declared.LentJob.{LentJob}
+use Rattle.model.specs.Answer.{totals, summary, answered}
 use Rattle.model.specs.Job.{Job, rules_of, cell_count, region_count, run_of, result}
 use Rattle.model.specs.Columns.{Columns, written, columns_of}
 use Rattle.laws.specs.Demands.{WellFormed, Roomy, reached, mark_count, Enough, duplicate_areas, zeros, lengths_of}
 use Rattle.call.proofs.resolve_conditional_paints.Reads as call
-use Rattle.claims.specs.Arguments.{Places, slice, slice_mut, Numbers, NumbersMut, ◌⊗◌, ◌&◌}
+use Rattle.claims.specs.Arguments.{Places, slice_mut, NumbersMut, job_at, ◌⊗◌, ◌&◌}
 
 -- ---- the arguments of the call, by their names
 
 abbrev pub Where : Type 0
-Where = Places 19
+Where = Places 10
 
 abbrev pub Args : Type 0
 Args =
-    Numbers ⊗ Numbers ⊗ Numbers ⊗ Numbers ⊗ Numbers ⊗ Numbers ⊗ Numbers ⊗ Numbers ⊗ Numbers ⊗ Numbers ⊗ Span ⊗ Rules ⊗ ℕ ⊗ ℕ
+    LentJob ⊗ ℕ
     ⊗ NumbersMut ⊗ NumbersMut ⊗ NumbersMut ⊗ NumbersMut ⊗ NumbersMut ⊗ NumbersMut ⊗ NumbersMut ⊗ NumbersMut ⊗ MutBor (List Float)
     ⊗ Unit {0}
 
 -- a job, a limit, and the nine columns that are lent for writing
 abbrev args : Where → Job → ℕ → Columns → Args
 args w j limit c =
-    slice w 0 j.cells.rows & slice w 1 j.cells.cols & slice w 2 j.cells.kinds & slice w 3 j.cells.wraps
-    & slice w 4 j.cells.nums & slice w 5 j.cells.ats & slice w 6 j.cells.lens & slice w 7 j.region_rows
-    & slice w 8 j.region_cols & slice w 9 j.pool & j.name & j.rules & limit & j.start
+    job_at w j & limit
     & slice_mut w 14 c.regions & slice_mut w 15 c.rules & slice_mut w 16 c.kinds & slice_mut w 17 c.colours & slice_mut w 18 c.ppms
     & slice_mut w 19 c.shapes & slice_mut w 20 c.bar_rules & slice_mut w 21 c.bar_ppms & slice_mut w 22 c.scratch & tt
 
@@ -48,7 +45,7 @@ IsAnswered a = (summary a).number ≡ 0
 
 -- nothing is asked of the caller
 abbrev pub NothingAsked : Type 0
-NothingAsked = (κs : Lfts 19) (a : Args) → call.Pre κs a
+NothingAsked = (κs : Lfts 10) (a : Args) → call.Pre κs a
 
 -- the answer and every element of the nine columns are the definition's, whatever the columns held
 abbrev pub Determined : Type 0
@@ -81,7 +78,7 @@ pub record Three (j : Job) : Type 0 where
       → IsAnswered a ↔ Enough j limit (lengths_of before)
   -- all these answers have count E, M marks, and the same deferred and simplified
   pub alike : (w : Where) (limit : ℕ) (before after : Columns) (a : Answer) → Roomy j (lengths_of before) → Ends w j limit before a after
-      → IsAnswered a → a ≡ Answer.Answered (reached j) (mark_count j) (run_of j).deferred (run_of j).simplified
+      → IsAnswered a → a ≡ Ok (totals (reached j) (mark_count j) (run_of j).deferred (run_of j).simplified)
   -- the nine columns hold the M marks in their order and the bars of the run without a limit, and zeros in the rest
   pub columns : (w : Where) (limit : ℕ) (before after : Columns) (a : Answer) → Roomy j (lengths_of before) → Ends w j limit before a after
       → IsAnswered a → after ≡ written (answered (reached j) (run_of j)) (lengths_of before)

@@ -1,16 +1,15 @@
 -- What is claimed of the walk over the cells and the regions of a sheet (document 02, T-02), as statements only: of what the contract of
 -- `places::walk_cells` asks (`Pre`) and promises (`Post`; Claims.antt says where these are from). proofs/FollowingHeld.antt proves them.
 -- Assumes nothing.
-use Rattle.std.specs.Prelude.{ℕ, suc, ◌+◌, ◌-◌, ◌≤◌, ◌<◌, ◌≡◌, ◌⊎◌, ◌↔◌, List, [], ◌∷◌, length, get_or, replicate}
+use Rattle.std.specs.Prelude.{ℕ, suc, ◌+◌, ◌-◌, ◌≤◌, ◌<◌, ◌≡◌, ◌⊎◌, ◌↔◌, List, length, get_or, replicate, Some, None}
 use Rattle.std.proofs.Math.Option.{none, some}
 use contract.Lifetimes.{Lfts}
-use Rattle.memory.specs.Memory.{page_of}
 use Rattle.model.specs.declared.CellCoordinate.{CellCoordinate}
 use Rattle.model.specs.Sheet.{CellColumns, cell_at, cell_from}
 use Rattle.model.specs.Job.{Job, first_fall}
 use Rattle.laws.specs.Demands.{WellFormed}
 use Rattle.cells.specs.Columns.{cells_of, coordinate_at}
-use Rattle.places.specs.declared.Walked.{Walked}
+use Rattle.places.specs.Places.{Walked}
 use Rattle.places.specs.Walk.{standing, walked, table_of}
 use Rattle.places.specs.Reached.{count, is_passed, is_met, reached}
 use Rattle.places.proofs.walk_cells.Reads as walkCall
@@ -68,22 +67,22 @@ Possible = (w : Where) (s : Sides) (before : List ℕ) → Ending w s before
 -- refused exactly if the table has fewer entries than there are regions, or there are more cells than an entry can name
 abbrev pub RefusedExactly : Type 0
 RefusedExactly = (w : Where) (s : Sides) (before after : List ℕ) (a : Walked) → Ends w s before a after
-    → (a ≡ Walked.Refused) ↔ ((length before < length s.region_rows) ⊎ (65_535 < length s.cells.rows))
+    → (a ≡ None) ↔ ((length before < length s.region_rows) ⊎ (65_535 < length s.cells.rows))
 
 -- demand 1: after a refusal zeros from end to end, and otherwise zeros behind the last region
 abbrev pub DemandOne : Type 0
 DemandOne = (w : Where) (s : Sides) (before after : List ℕ) (a : Walked) → Ends w s before a after
-    → (length after ≡ length before) × (a ≡ Walked.Refused → after ≡ replicate (length before) 0)
+    → (length after ≡ length before) × (a ≡ None → after ≡ replicate (length before) 0)
     × ((i : ℕ) → length s.region_rows ≤ i → get_or after i 0 ≡ 0)
 
 -- at most as many comparisons as there are regions and cells
 abbrev pub AtMost : Type 0
-AtMost = (w : Where) (s : Sides) (before after : List ℕ) (n : ℕ) → Ends w s before (Walked.Compared n) after
+AtMost = (w : Where) (s : Sides) (before after : List ℕ) (n : ℕ) → Ends w s before (Some n) after
     → n ≤ length s.region_rows + length s.cells.rows
 
 -- at most one less, unless there are none of both
 abbrev pub OneLess : Type 0
-OneLess = (w : Where) (s : Sides) (before after : List ℕ) (n : ℕ) → Ends w s before (Walked.Compared n) after
+OneLess = (w : Where) (s : Sides) (before after : List ℕ) (n : ℕ) → Ends w s before (Some n) after
     → n ≤ length s.region_rows + length s.cells.rows - 1
 
 -- ---- on rising columns
@@ -105,17 +104,17 @@ pub record Found (c : CellColumns) (at : CellCoordinate) (entry : ℕ) : Type 0 
 
 -- in one pass the walk finds for each region the cell at its coordinate, or none
 abbrev pub Finds : Type 0
-Finds = (w : Where) (s : Sides) (before after : List ℕ) (n : ℕ) → Rising s → Ends w s before (Walked.Compared n) after
+Finds = (w : Where) (s : Sides) (before after : List ℕ) (n : ℕ) → Rising s → Ends w s before (Some n) after
     → (i : ℕ) → i < length s.region_rows → Found s.cells (coordinate_at s.region_rows s.region_cols i) (get_or after i 0)
 
 -- at least one comparison for each cell that a region comes after or stands at: each that is passed or found
 abbrev pub AtLeast : Type 0
-AtLeast = (w : Where) (s : Sides) (before after : List ℕ) (n : ℕ) → Rising s → Ends w s before (Walked.Compared n) after
+AtLeast = (w : Where) (s : Sides) (before after : List ℕ) (n : ℕ) → Rising s → Ends w s before (Some n) after
     → reached (cells_on s) (regions_on s) ≤ n
 
 -- one for each cell that a region comes after, and one for each region that a cell stands at or comes after
 abbrev pub Exactly : Type 0
-Exactly = (w : Where) (s : Sides) (before after : List ℕ) (n : ℕ) → Rising s → Ends w s before (Walked.Compared n) after
+Exactly = (w : Where) (s : Sides) (before after : List ℕ) (n : ℕ) → Rising s → Ends w s before (Some n) after
     → n ≡ count (is_passed (regions_on s)) (cells_on s) + count (is_met (cells_on s)) (regions_on s)
 
 -- ---- the bounds are met
@@ -125,7 +124,7 @@ pub record Shown (s : Sides) (n : ℕ) : Type 0 where
   pub rising : Rising s
   pub cells : length s.cells.rows ≡ 3
   pub compares : (w : Where) (before after : List ℕ) (a : Walked) → length s.region_rows ≤ length before → Ends w s before a after
-      → a ≡ Walked.Compared n
+      → a ≡ Some n
 
 -- three regions that stand at the cells: one comparison less than there are of both
 pub record Most : Type 0 where

@@ -1,26 +1,24 @@
 -- What is claimed of reading and writing references in A1 form (document 02, T-04), as statements only: of what the contracts of
 -- `a1reader::parse_a1_reference` and `a1writer::write_a1_reference` ask (`Pre`) and promise (`Post`; Claims.antt says where these are
 -- from), and of the texts themselves. proofs/ReferencesHeld.antt proves them. Assumes nothing.
-use Rattle.std.specs.Prelude.{ℕ, ◌+◌, ◌-◌, ◌≤◌, ◌<◌, ◌≡◌, ◌↔◌, true, false, List, length, take, replicate}
-use Rattle.std.proofs.Math.Option.{none}
+use Rattle.std.specs.Prelude.{ℕ, ◌+◌, ◌-◌, ◌≤◌, ◌<◌, ◌≡◌, ◌↔◌, true, false, List, length, take, replicate, Ok}
 use contract.Lifetimes.{Lfts}
 use Rattle.memory.specs.Memory.{page}
 use Rattle.model.specs.declared.A1Reference.{A1Reference}
 use Rattle.model.specs.declared.ConditionalComparison.{ConditionalComparison}
-use Rattle.model.specs.declared.Split.{Split}
-use Rattle.model.specs.Answer.{refusal, answer}
+use Rattle.model.specs.Answer.{refusal}
 use Rattle.model.specs.Readings.{every}
-use Rattle.model.specs.Split.{trimmed, formula, split, left_part, right_part}
+use Rattle.model.specs.Split.{trimmed, formula, split, split_at, left_part, right_part}
 use Rattle.jobtext.specs.Written.{Reference}
 use Rattle.jobtext.specs.Said.{reference_said}
 use Rattle.jobtext.specs.Laid.{name_bytes, reference_at}
 use Rattle.a1text.specs.Bytes.{is_capital}
 use Rattle.a1text.specs.Columns.{columns, column_number, column_text, is_column}
 use Rattle.a1text.specs.A1.{has_text, a1, Spells, operand_read, writable, operand_written}
-use Rattle.a1reader.specs.declared.ReadReference.{ReadReference}
+use Rattle.a1reader.specs.Answers.{ReadReference}
 use Rattle.a1reader.specs.Answers as Reading
 use Rattle.a1reader.proofs.parse_a1_reference.Reads as readCall
-use Rattle.a1writer.specs.declared.WrittenReference.{WrittenReference}
+use Rattle.a1writer.specs.Answers.{WrittenReference}
 use Rattle.a1writer.specs.Answers as Writing
 use Rattle.a1writer.proofs.write_a1_reference.Reads as writeCall
 use Rattle.claims.specs.Arguments.{Places, slice, slice_mut, Numbers, NumbersMut, ◌⊗◌, ◌&◌}
@@ -95,7 +93,7 @@ ReadExactly = (w : Where) (bytes before after : List ℕ) (a : ReadReference) (r
     → Spells (formula bytes) r
     → (length before < length (name_bytes r.name) → (Reading.summary_of a ≡ refusal 15 0 0 0) × (after ≡ replicate (length before) 0))
     × (length (name_bytes r.name) ≤ length before
-    → (a ≡ ReadReference.Read (reference_at 0 r)) × (after ≡ page (length before) (name_bytes r.name)))
+    → (a ≡ Ok (reference_at 0 r)) × (after ≡ page (length before) (name_bytes r.name)))
 
 -- ---- writing
 
@@ -112,7 +110,7 @@ WrittenExactly = (w : Where) (r : A1Reference) (pool before after : List ℕ) (a
     → (length before < length (a1.text (reference_said pool r))
     → (Writing.summary_of a ≡ refusal 15 0 0 0) × (after ≡ replicate (length before) 0))
     × (length (a1.text (reference_said pool r)) ≤ length before
-    → (a ≡ WrittenReference.Written (length (a1.text (reference_said pool r))))
+    → (a ≡ Ok (length (a1.text (reference_said pool r))))
     × (after ≡ page (length before) (a1.text (reference_said pool r))))
 
 -- the text of a reference that has one spells it, and a reference that any text spells has one
@@ -122,22 +120,22 @@ HasText = (r : Reference) → (has_text r ≡ true → Spells (a1.text r) r) × 
 -- references with the same text are the same, and those that are the same have the same text
 abbrev pub OneText : Type 0
 OneText = (w v : Where) (r q : A1Reference) (pool pool' before before' after after' : List ℕ) (n m : ℕ)
-    → Writes w r pool before (WrittenReference.Written n) after → Writes v q pool' before' (WrittenReference.Written m) after'
+    → Writes w r pool before (Ok n) after → Writes v q pool' before' (Ok m) after'
     → (take n after ≡ take m after') ↔ (reference_said pool r ≡ reference_said pool' q)
 
 -- ---- read, written and read again
 
 -- what was read can be written, with the bytes lent for its name as the pool
 abbrev pub ReadIsWritable : Type 0
-ReadIsWritable = (w : Where) (bytes before after : List ℕ) (r : A1Reference) → Reads w bytes before (ReadReference.Read r) after
+ReadIsWritable = (w : Where) (bytes before after : List ℕ) (r : A1Reference) → Reads w bytes before (Ok r) after
     → writable after r ≡ true
 
 -- it is the same reference, with the same name, when it is read again
 abbrev pub ReadAgain : Type 0
 ReadAgain = (w v u : Where) (bytes before after before' after' before'' after'' : List ℕ) (r : A1Reference) (n : ℕ) (b : ReadReference)
-    → Reads w bytes before (ReadReference.Read r) after → Writes v r after before' (WrittenReference.Written n) after'
+    → Reads w bytes before (Ok r) after → Writes v r after before' (Ok n) after'
     → Reads u (take n after') before'' b after'' → length before ≡ length before''
-    → (b ≡ ReadReference.Read r) × (after'' ≡ after)
+    → (b ≡ Ok r) × (after'' ≡ after)
 
 -- ---- columns
 
@@ -151,6 +149,6 @@ ColumnsInverse = ((n : ℕ) → n < columns → (column_number (column_text n) �
 -- on a part of a formula that has an operator the reader gives what it gives on those bytes trimmed
 abbrev pub PartsReadAsTrimmed : Type 0
 PartsReadAsTrimmed = (w v : Where) (bs before before' after after' : List ℕ) (op : ConditionalComparison) (at width : ℕ)
-    (a b : ReadReference) → split bs ≡ Split.At op at width → length before ≡ length before'
+    (a b : ReadReference) → split bs ≡ split_at op at width → length before ≡ length before'
     → (Reads w (left_part bs) before a after → Reads v (trimmed (left_part bs)) before' b after' → (a ≡ b) × (after ≡ after'))
     × (Reads w (right_part bs) before a after → Reads v (trimmed (right_part bs)) before' b after' → (a ≡ b) × (after ≡ after'))

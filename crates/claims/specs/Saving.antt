@@ -2,16 +2,14 @@
 -- call for C, `wavendiru_save_job`, ask (`Pre`) and promise (`Post`; Claims.antt says where these are from), and of the text itself.
 -- proofs/SavingHeld.antt proves them. Assumes nothing.
 use Rattle.std.specs.Prelude.{ℕ, ◌≤◌, ◌<◌, ◌≡◌, ◌⊎◌, ◌↔◌, List, [], ◌∷◌, length, replicate}
-use Rattle.std.proofs.Math.Option.{some}
 use contract.Lifetimes.{Lfts}
 use types.Run.{OneOf}
 use Rattle.memory.specs.Memory.{page, page_length}
-use Rattle.model.specs.declared.Answer.{Answer}
-use Rattle.model.specs.declared.Rules.{Rules}
-use Rattle.model.specs.declared.Span.{Span}
-use Rattle.model.specs.Answer.{Summary, refusal, answer, summary}
+use Rattle.model.specs.Options.{Answer}
+use Rattle.model.specs.declared.LentJob.{LentJob}
+use Rattle.model.specs.Answer.{refusal, answer, summary}
 use Rattle.model.specs.Columns.{Columns}
-use Rattle.model.specs.Job.{Job, malformed}
+use Rattle.model.specs.Job.{Job}
 use Rattle.laws.specs.Demands.{WellFormed}
 use Rattle.jobtext.specs.Written.{JobText}
 use Rattle.jobtext.specs.Read.{ReadResult, max_text, read}
@@ -20,30 +18,24 @@ use Rattle.savedtext.specs.Saved.{text_of, saved, saved_length, saved_bytes}
 use Rattle.savedtext.specs.Alike.{Alike}
 use Rattle.savedtext.specs.Typed.{Typed}
 use Rattle.savedtext.specs.Resaved.{resaved}
-use Rattle.writer.specs.declared.Saved.{Saved}
-use Rattle.writer.specs.Answers.{summary_of, length_of}
+use Rattle.writer.specs.Answers.{Saved, summary_of, length_of}
 use Rattle.writer.proofs.write_job.Reads as write
 use Rattle.saveexports.proofs.wavendiru_save_job.Reads as saveCall
-use Rattle.claims.specs.Arguments.{Places, slice, slice_mut, Numbers, NumbersMut, ◌⊗◌, ◌&◌}
+use Rattle.claims.specs.Arguments.{Places, slice_mut, NumbersMut, job_at, ◌⊗◌, ◌&◌}
 use Rattle.claims.specs.Claims as Deciding
 use Rattle.claims.specs.WholeJobs.{Lent, TextAndReport, args as textAndLent}
 
 -- ---- the arguments of the writer, by their names
 
 abbrev pub Where : Type 0
-Where = Places 11
+Where = Places 2
 
 abbrev pub Args : Type 0
-Args =
-    Numbers ⊗ Numbers ⊗ Numbers ⊗ Numbers ⊗ Numbers ⊗ Numbers ⊗ Numbers ⊗ Numbers ⊗ Numbers ⊗ Numbers ⊗ Span ⊗ Rules ⊗ ℕ ⊗ ℕ ⊗ NumbersMut
-    ⊗ Unit {0}
+Args = LentJob ⊗ ℕ ⊗ NumbersMut ⊗ Unit {0}
 
 -- a job, a limit, and the bytes that are lent for writing
 abbrev args : Where → Job → ℕ → List ℕ → Args
-args w j limit text =
-    slice w 0 j.cells.rows & slice w 1 j.cells.cols & slice w 2 j.cells.kinds & slice w 3 j.cells.wraps
-    & slice w 4 j.cells.nums & slice w 5 j.cells.ats & slice w 6 j.cells.lens & slice w 7 j.region_rows
-    & slice w 8 j.region_cols & slice w 9 j.pool & j.name & j.rules & limit & j.start & slice_mut w 14 text & tt
+args w j limit text = job_at w j & limit & slice_mut w 14 text & tt
 
 -- the writer on a job ends with this answer, and leaves this in the bytes that held `before`
 abbrev pub Ends : Where → Job → ℕ → List ℕ → Saved → List ℕ → Type 0
@@ -57,7 +49,7 @@ IsWritten a = (summary_of a).number ≡ 0
 
 -- nothing is asked of the caller
 abbrev pub NothingAsked : Type 0
-NothingAsked = (κs : Lfts 11) (a : Args) → write.Pre κs a
+NothingAsked = (κs : Lfts 2) (a : Args) → write.Pre κs a
 
 -- the answer, its length and every lent byte are the definition's, whatever the bytes held
 abbrev pub Determined : Type 0

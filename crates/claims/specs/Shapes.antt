@@ -4,7 +4,7 @@
 use Rattle.std.specs.Prelude.{ℕ, ◌≤◌, ◌<◌, ◌≡◌, ◌↔◌, ◌≢◌, true, false, T, Float, get_or}
 use Rattle.std.specs.Float.{binary64}
 use Rattle.std.specs.Float.Ieee.{fits, sub, lt, le}
-use Rattle.model.specs.declared.Answer.{Answer}
+use Rattle.model.specs.Options.{Answer}
 use Rattle.model.specs.declared.Rule.{Rule}
 use Rattle.model.specs.declared.Shape.{Shape}
 use Rattle.model.specs.Readings.{finite}

@@ -2,53 +2,26 @@
 #![tactic(auto)]
 
 ghost use Rattle.std.specs.Prelude.{◌≡◌};
-ghost use Rattle.model.specs.Comparison.{uses_second, between, not_between, compare_conditional, compare};
+ghost use Rattle.model.specs.Comparison.{uses_second, compare_conditional, compare};
 
-use model::{ConditionalComparison, DvOp, Reading};
+use model::{ConditionalComparison, DvOp};
 
 // Whether a cell-is rule with this operator reads its second operand.
+#[tactic(auto, unfolding(model::specs::Comparison::uses_second))]
 pub fn uses_second(op: DvOp) -> bool
     ensures { result ≡ uses_second op }
 {
-    match op {
-        DvOp::Between => true,
-        DvOp::NotBetween => true,
-        DvOp::Equal => false,
-        DvOp::NotEqual => false,
-        DvOp::GreaterThan => false,
-        DvOp::LessThan => false,
-        DvOp::GreaterThanOrEqual => false,
-        DvOp::LessThanOrEqual => false,
-    }
+    matches!(op, DvOp::Between | DvOp::NotBetween)
 }
 
-// Both ends included. False without a second number.
-fn between(value: f64, first: f64, second: Reading) -> bool
-    ensures { result ≡ between value first second }
-{
-    match second {
-        Reading::Number(second) => first <= value && value <= second,
-        Reading::Nothing => false,
-    }
-}
-
-// Both ends left out. False without a second number.
-fn not_between(value: f64, first: f64, second: Reading) -> bool
-    ensures { result ≡ not_between value first second }
-{
-    match second {
-        Reading::Number(second) => value < first || value > second,
-        Reading::Nothing => false,
-    }
-}
-
-// Port of compare_conditional (conditional.rs).
-pub fn compare_conditional(value: f64, op: DvOp, first: f64, second: Reading) -> bool
+// Port of compare_conditional (conditional.rs). Between includes both ends, and without a second number neither it nor NotBetween holds.
+#[tactic(auto, unfolding(model::specs::Comparison::compare_conditional, model::specs::Comparison::between, model::specs::Comparison::not_between))]
+pub fn compare_conditional(value: f64, op: DvOp, first: f64, second: Option<f64>) -> bool
     ensures { result ≡ compare_conditional value op first second }
 {
     match op {
-        DvOp::Between => between(value, first, second),
-        DvOp::NotBetween => not_between(value, first, second),
+        DvOp::Between => second.is_some_and(|second| first <= value && value <= second),
+        DvOp::NotBetween => second.is_some_and(|second| value < first || value > second),
         DvOp::Equal => value == first,
         DvOp::NotEqual => value != first,
         DvOp::GreaterThan => value > first,
@@ -59,6 +32,7 @@ pub fn compare_conditional(value: f64, op: DvOp, first: f64, second: Reading) ->
 }
 
 // Port of ConditionalComparison::compare (conditional.rs).
+#[tactic(auto, unfolding(model::specs::Comparison::compare))]
 pub fn compare(op: ConditionalComparison, left: f64, right: f64) -> bool
     ensures { result ≡ compare op left right }
 {

@@ -1,5 +1,7 @@
 -- What is printed from the answer and the columns of a job that was lent space for 1,024 is the report of its result, and the columns
 -- hold all its marks. Assumes nothing.
+use Rattle.model.specs.declared.Refusal.{Refusal}
+use Rattle.std.specs.Prelude.{Err, Ok}
 use Prim.Native.Nat.{ℕ, ◌≤◌}
 use native.Mathlib.Omega.{arith}
 use mathlib.Core.Path.{◌≡◌, refl, sym, ap, ◌∙◌}
@@ -7,8 +9,8 @@ use mathlib.Core.Logic.{◌⊎◌, inl, inr}
 use mathlib.Core.Bool.{true}
 use lib.ListN.{length}
 use borrow.Author.Tests.{le-leb}
-use Rattle.model.specs.declared.Answer.{Answer}
-use Rattle.model.specs.Answer.{Summary, Result, summary, refusal, answer, answered}
+use Rattle.model.specs.Options.{Answer}
+use Rattle.model.specs.Answer.{Summary, Result, refused_by, summary, refusal, answer, answered}
 use Rattle.model.specs.Job.{Job, Lengths, mark_space, rules_of, run_of, result}
 use Rattle.model.specs.Columns.{Columns, columns_of}
 use Rattle.laws.specs.Demands.{lengths_of}
@@ -42,18 +44,22 @@ module _ (j : Job) (limit : ℕ) (l : Lengths) (a : Answer) (c : Columns) where
 
 -- ---- the marks
 
+refused_marks : (r : Refusal) → (refused_by r).marks ≡ 0
+unfolding refused_by refusal
+refused_marks (Refusal.LengthsDiffer count) = refl
+refused_marks (Refusal.TooMany count) = refl
+refused_marks (Refusal.OutOfBounds place count) = refl
+refused_marks (Refusal.NotRising place count) = refl
+refused_marks (Refusal.NameOutside place count) = refl
+refused_marks (Refusal.SpaceShort count) = refl
+refused_marks (Refusal.LimitExceeded count actual) = refl
+refused_marks (Refusal.CoordinateOverflow count) = refl
+refused_marks (Refusal.MarksExceedSpace count actual) = refl
+
 refusal_marks : (a : Answer) → ((summary a).number ≡ 0 → ⊥) → (summary a).marks ≡ 0
-unfolding summary answer refusal
-refusal_marks (Answer.Answered count marks deferred simplified) h = absurd (h refl)
-refusal_marks (Answer.LengthsDiffer count) h = refl
-refusal_marks (Answer.TooMany count) h = refl
-refusal_marks (Answer.OutOfBounds place count) h = refl
-refusal_marks (Answer.NotRising place count) h = refl
-refusal_marks (Answer.NameOutside place count) h = refl
-refusal_marks (Answer.SpaceShort count) h = refl
-refusal_marks (Answer.LimitExceeded count actual) h = refl
-refusal_marks (Answer.CoordinateOverflow count) h = refl
-refusal_marks (Answer.MarksExceedSpace count actual) h = refl
+unfolding summary answer
+refusal_marks (Ok a) h = absurd (h refl)
+refusal_marks (Err r) h = refused_marks r
 
 shown_space : (c : Columns) → mark_space (lengths_of (shown c)) ≡ mark_space (lengths_of c)
 unfolding mark_space

@@ -2,38 +2,17 @@
 #![tactic(auto)]
 
 ghost use Rattle.std.specs.Prelude.{◌≡◌, length};
-ghost use Rattle.checks.specs.Checked.{cell_columns, job_of};
 ghost use Rattle.memory.specs.Memory.{page, page_length};
+ghost use Rattle.model.specs.Lent.{job_lent};
 ghost use Rattle.reporttext.specs.Reports.{job_report};
 ghost use Rattle.jobtext.specs.Decided.{whole_space};
 
-use model::{Rules, Span};
+use model::LentJob;
 
 // The report of a job: its length, 0 where it is longer than the lent bytes.
-pub fn decide_job(
-    rows: &[u32],
-    cols: &[u16],
-    kinds: &[u8],
-    wraps: &[u8],
-    nums: &[u64],
-    ats: &[u32],
-    lens: &[u32],
-    region_rows: &[u32],
-    region_cols: &[u16],
-    pool: &[u8],
-    name: Span,
-    rules: Rules,
-    limit: u64,
-    start: u64,
-    report: &mut [u8],
-) -> usize
-    ensures length { result ≡ page_length (length report.old) (job_report (job_of (cell_columns rows.now
-        cols.now kinds.now wraps.now nums.now ats.now lens.now)
-        region_rows.now region_cols.now pool.now name rules start) limit whole_space) }
-    ensures bytes { report.new ≡ page (length report.old) (job_report (job_of (cell_columns
-        rows.now cols.now kinds.now wraps.now nums.now ats.now
-        lens.now) region_rows.now region_cols.now pool.now name rules start) limit
-        whole_space) }
+pub fn decide_job(job: LentJob<'_>, limit: u64, report: &mut [u8]) -> usize
+    ensures length { result ≡ page_length (length report.old) (job_report (job_lent job.entry) limit whole_space) }
+    ensures bytes { report.new ≡ page (length report.old) (job_report (job_lent job.entry) limit whole_space) }
 {
     let mut regions = [0u32; 1024];
     let mut ruleids = [0u32; 1024];
@@ -45,20 +24,8 @@ pub fn decide_job(
     let mut barppms = [0u32; 1024];
     let mut scratch = [0.0; 1024];
     let answer = call::resolve_conditional_paints(
-        rows,
-        cols,
-        kinds,
-        wraps,
-        nums,
-        ats,
-        lens,
-        region_rows,
-        region_cols,
-        pool,
-        name,
-        rules,
+        job,
         limit,
-        start,
         &mut regions,
         &mut ruleids,
         &mut markkinds,
@@ -70,7 +37,7 @@ pub fn decide_job(
         &mut scratch,
     );
     report::write_report(
-        answer, rules, &regions, &ruleids, &markkinds, &colours, &ppms, &shapes, &barrules,
+        answer, job.rules, &regions, &ruleids, &markkinds, &colours, &ppms, &shapes, &barrules,
         &barppms, report,
     )
 }

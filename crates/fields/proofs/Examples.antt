@@ -4,6 +4,7 @@ use Prim.Native.Nat.{ℕ}
 use mathlib.Core.Path.{◌≡◌, refl}
 use mathlib.Core.Bool.{true, false}
 use mathlib.Core.List.{List, [], ◌∷◌}
+use Rattle.std.specs.Prelude.{Ok, Err}
 use lib.ListN.{drop}
 use Rattle.memory.specs.Memory.{all_or}
 use Rattle.grammar.specs.Gram.{Got}
@@ -19,36 +20,36 @@ worked : pairs_from 10 1 (drop 1 (0x74 ∷ 0x34 ∷ 0x38 ∷ 0x36 ∷ 0x39 ∷ 1
 unfolding pairs_from digit_value is_hex
 worked = refl
 
-short : (text_of read 0 1 ≡ record { ok = true; fits = false; length = 2; next = 6 }) × (pooled read 0 (7 ∷ []) ≡ 0 ∷ [])
+short : (text_of read 0 1 ≡ Ok (record { fits = false; length = 2; next = 6 })) × (pooled read 0 (7 ∷ []) ≡ 0 ∷ [])
 unfolding all_or
 short = (refl, refl)
 
-exact : (text_of read 0 2 ≡ record { ok = true; fits = true; length = 2; next = 6 }) × (pooled read 0 (7 ∷ 8 ∷ []) ≡ 0x48 ∷ 0x69 ∷ [])
+exact : (text_of read 0 2 ≡ Ok (record { fits = true; length = 2; next = 6 })) × (pooled read 0 (7 ∷ 8 ∷ []) ≡ 0x48 ∷ 0x69 ∷ [])
 unfolding all_or
 exact = (refl, refl)
 
-longer : (text_of read 0 3 ≡ record { ok = true; fits = true; length = 2; next = 6 })
+longer : (text_of read 0 3 ≡ Ok (record { fits = true; length = 2; next = 6 }))
     × (pooled read 0 (7 ∷ 8 ∷ 9 ∷ []) ≡ 0x48 ∷ 0x69 ∷ 9 ∷ [])
 unfolding all_or
 longer = (refl, refl)
 
 -- behind a byte of an earlier text
-behind : (text_of read 1 3 ≡ record { ok = true; fits = true; length = 2; next = 6 })
+behind : (text_of read 1 3 ≡ Ok (record { fits = true; length = 2; next = 6 }))
     × (pooled read 1 (7 ∷ 8 ∷ 9 ∷ []) ≡ 7 ∷ 0x48 ∷ 0x69 ∷ [])
 unfolding all_or
 behind = (refl, refl)
 
-short_behind : (text_of read 2 3 ≡ record { ok = true; fits = false; length = 2; next = 6 })
+short_behind : (text_of read 2 3 ≡ Ok (record { fits = false; length = 2; next = 6 }))
     × (pooled read 2 (7 ∷ 8 ∷ 9 ∷ []) ≡ 0 ∷ 0 ∷ 0 ∷ [])
 unfolding all_or
 short_behind = (refl, refl)
 
 -- no bytes at all, at a place past the end
-past_the_end : (text_of (got [] 2) 3 2 ≡ record { ok = true; fits = false; length = 0; next = 2 })
+past_the_end : (text_of (got [] 2) 3 2 ≡ Ok (record { fits = false; length = 0; next = 2 }))
     × (pooled (got [] 2) 3 (7 ∷ 8 ∷ []) ≡ 0 ∷ 0 ∷ [])
 unfolding all_or
 past_the_end = (refl, refl)
 
-malformed : (text_of (bad 3) 1 3 ≡ record { ok = false; fits = false; length = 0; next = 3 })
+malformed : (text_of (bad 3) 1 3 ≡ Err (record { at = 3 }))
     × (pooled (bad 3) 1 (7 ∷ 8 ∷ 9 ∷ []) ≡ 0 ∷ 0 ∷ 0 ∷ [])
 malformed = (refl, refl)

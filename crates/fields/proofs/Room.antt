@@ -1,12 +1,12 @@
 -- Reading on keeps the bounds, where what goes to the pool is no longer than the text that it was read from. Assumes nothing.
-use Prim.Native.Nat.{ℕ, ◌+◌, ◌≤◌, ◌<◌}
+use Prim.Native.Nat.{ℕ, ◌+◌, ◌≤◌}
 use mathlib.Core.Path.{◌≡◌, refl}
 use mathlib.Core.Bool.{Bool, true, false, ◌&&◌}
 use mathlib.Core.List.{List}
 use native.Mathlib.Omega.{arith}
 use lib.Dec.{leb}
 use lib.ListN.{length}
-use borrow.Author.Tests.{le-leb, lt-leb, leb-true}
+use borrow.Author.Tests.{le-leb, leb-true}
 use Rattle.grammar.specs.Gram.{Gram, Exactly}
 use Rattle.grammar.specs.Gram.Got.{got}
 use Rattle.grammar.proofs.Places.{forward, inside}
@@ -48,18 +48,3 @@ roomy_room s at used e =
 pub room_roomy : {s : List ℕ} {at used : ℕ} → Room s at used → roomy s at used ≡ true
 unfolding roomy
 room_roomy r = rw (le-leb _ _ r.low, le-leb _ _ r.inside, le-leb _ _ r.short)
-
--- ---- the test
-
-module _ (s : List ℕ) (at used : ℕ) where
-  pub roomy_past : at < used → false ≡ roomy s at used
-  unfolding roomy
-  roomy_past h = rw (lt-leb used at h)
-
-  pub roomy_outside : used ≤ at → length s < at → false ≡ roomy s at used
-  unfolding roomy
-  roomy_outside l h = rw (le-leb used at l, lt-leb at (length s) h)
-
-  pub roomy_length : used ≤ at → at ≤ length s → leb (length s) 65_536 ≡ roomy s at used
-  unfolding roomy
-  roomy_length l h = rw (le-leb used at l, le-leb at (length s) h)

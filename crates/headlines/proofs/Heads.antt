@@ -1,18 +1,19 @@
 -- The grammar of the first two lines, part by part, and the answers of their readers. Assumes nothing.
 use Prim.Native.Nat.{ℕ}
-use mathlib.Core.Path.{◌≡◌, refl, sym, ap, ◌∙◌}
-use mathlib.Core.Bool.{true, false, not}
+use mathlib.Core.Path.{◌≡◌, refl, ap, ◌∙◌}
+use mathlib.Core.Bool.{true}
+use Rattle.std.specs.Prelude.{Result, Ok, Err}
 use mathlib.Core.List.{List}
 use lib.ListN.{length, drop, replicate, length-replicate}
-use Rattle.memory.specs.Memory.{all_or}
+use Rattle.memory.specs.Memory.{fits, all_or}
 use Rattle.grammar.specs.Gram.{Got, Gram}
 use Rattle.grammar.specs.Gram.Got.{got, bad}
 use Rattle.grammar.specs.Parts.{then, bytes, byte_p, word_p, both}
 use Rattle.grammar.specs.Numbers.{decimal_p, pairs_from}
-use Rattle.fields.specs.declared.Field.{Field}
+use Rattle.fields.specs.declared.Malformed.{Malformed}
 use Rattle.fields.specs.declared.ReadText.{ReadText}
-use Rattle.fields.specs.Field.{field_of, word_of, text_of, pooled}
-use Rattle.fields.proofs.Laws.{clash, field_read, field_none, word_read, word_none, word_byte}
+use Rattle.fields.specs.Field.{word_of, text_of, pooled}
+use Rattle.fields.proofs.Laws.{word_got, word_bad, word_byte}
 use Rattle.jobtext.specs.Fields.{count, text_field}
 use Rattle.jobtext.specs.Text.{Head, head_names, head, head_t, to_head}
 use Rattle.headlines.specs.declared.Counts.{Counts}
@@ -24,68 +25,6 @@ use Rattle.headlines.specs.Heads.{counts_t, counts, counts_of, head_of, head_poo
 -- a number below 2^64 and the blank behind it
 abbrev pub number : List ℕ → ℕ → Got ℕ
 number s at = decimal_p 18_446_744_073_709_551_615 32 s at
-
-abbrev no_counts : ℕ → Counts
-no_counts p = record { ok = false; limit = 0; start = 0; cells = 0; regions = 0; rules = 0; next = p }
-
-module _ (s : List ℕ) (at : ℕ) {a : Field} (ea : a ≡ field_of (number s at)) where
-  pub no_limit : {r : Counts} → not a.ok ≡ true → r ≡ no_counts a.next → r ≡ counts_of (counts.parse s at)
-  unfolding counts
-  no_limit x y = y ∙ rw (field_none (number s at) ea x)
-
-  module _ (xa : not a.ok ≡ false) {b : Field} (eb : b ≡ field_of (number s a.next)) where
-    pub no_start : {r : Counts} → not b.ok ≡ true → r ≡ no_counts b.next → r ≡ counts_of (counts.parse s at)
-    unfolding counts
-    no_start x y = y ∙ rw (field_read (number s at) ea xa, field_none (number s a.next) eb x)
-
-    module _ (xb : not b.ok ≡ false) {d : Field} (ed : d ≡ field_of (number s b.next)) where
-      pub no_cells : {r : Counts} → not d.ok ≡ true → r ≡ no_counts d.next → r ≡ counts_of (counts.parse s at)
-      unfolding counts
-      no_cells x y =
-          y ∙ rw (field_read (number s at) ea xa, field_read (number s a.next) eb xb, field_none (number s b.next) ed x)
-
-      module _ (xd : not d.ok ≡ false) {e : Field} (ee : e ≡ field_of (number s d.next)) where
-        pub no_regions : {r : Counts} → not e.ok ≡ true → r ≡ no_counts e.next → r ≡ counts_of (counts.parse s at)
-        unfolding counts
-        no_regions x y =
-            y ∙ rw (
-              field_read (number s at) ea xa,
-              field_read (number s a.next) eb xb,
-              field_read (number s b.next) ed xd,
-              field_none (number s d.next) ee x,
-            )
-
-        module _ (xe : not e.ok ≡ false) {f : Field} (ef : f ≡ field_of (number s e.next)) where
-          pub no_rules : {r : Counts} → not f.ok ≡ true → r ≡ no_counts f.next → r ≡ counts_of (counts.parse s at)
-          unfolding counts
-          no_rules x y =
-              y ∙ rw (
-                field_read (number s at) ea xa,
-                field_read (number s a.next) eb xb,
-                field_read (number s b.next) ed xd,
-                field_read (number s d.next) ee xe,
-                field_none (number s e.next) ef x,
-              )
-
-          pub counts_answer : not f.ok ≡ false
-              → record {
-                ok = true;
-                limit = a.value;
-                start = b.value;
-                cells = d.value;
-                regions = e.value;
-                rules = f.value;
-                next = f.next;
-              } ≡ counts_of (counts.parse s at)
-          unfolding counts
-          counts_answer x =
-              rw (
-                field_read (number s at) ea xa,
-                field_read (number s a.next) eb xb,
-                field_read (number s b.next) ed xd,
-                field_read (number s d.next) ee xe,
-                field_read (number s e.next) ef x,
-              )
 
 -- ---- the numbers, then the name
 
@@ -137,92 +76,84 @@ numbers_name s = more_joined (more_joined (more_joined (more_joined one_joined))
 abbrev told : Counts → counts_t
 told k = (k.limit, (k.start, (k.cells, (k.regions, k.rules))))
 
-counts_read : (g : Got counts_t) {k : Counts} → k ≡ counts_of g → not k.ok ≡ false → g ≡ got (told k) k.next
-counts_read (got x q) e h = rw e
-counts_read (bad p) {k} e h = clash true (not k.ok) refl h (sym (ap (λ (y : Counts). not y.ok) e))
+counts_read : (g : Got counts_t) {k : Counts} → Ok k ≡ counts_of g → g ≡ got (told k) k.next
+counts_read (got x q) {k} e =
+    let h : k ≡ record { limit = x.0; start = x.1.0; cells = x.1.1.0; regions = x.1.1.1.0; rules = x.1.1.1.1; next = q } = cc in rw h
+counts_read (bad p) e = cc
 
-counts_none : (g : Got counts_t) {k : Counts} → k ≡ counts_of g → not k.ok ≡ true → g ≡ bad k.next
-counts_none (got x q) {k} e h = clash (not k.ok) false h refl (ap (λ (y : Counts). not y.ok) e)
-counts_none (bad p) e h = rw e
+counts_none : (g : Got counts_t) {e : Malformed} → Err e ≡ counts_of g → g ≡ bad e.at
+counts_none (got x q) h = cc
+counts_none (bad p) {e} h = let k : e ≡ record { at = p } = cc in rw k
 
 -- ---- both lines
-
-abbrev no_head : ℕ → ReadHead
-no_head p = record { ok = false; fits = false; limit = 0; start = 0; cells = 0; regions = 0; rules = 0; name = 0; next = p }
 
 -- `clean` is the pool after it was cleared
 module _ (s : List ℕ) (at : ℕ) (pool : List ℕ) {clean : List ℕ} (cleared : clean ≡ replicate (length pool) 0) where
   -- what is said of the answer r and of the pool at the end
-  abbrev Says : Got Head → ReadHead → List ℕ → Type 0
+  abbrev Says : Got Head → Result ReadHead Malformed → List ℕ → Type 0
   Says g r after = (r ≡ head_of g (length pool)) × (after ≡ head_pooled g (length pool))
 
-  refused : (p : ℕ) {r : ReadHead} → head.parse s at ≡ bad p → r ≡ no_head p → Says (head.parse s at) r clean
-  refused p e y = rw e (y, cleared)
+  refused : (p : ℕ) → head.parse s at ≡ bad p → Says (head.parse s at) (Err (record { at = p })) clean
+  refused p e = rw e (refl, cleared)
 
-  module _ {w : Field} (ew : w ≡ word_of (word_p head_names s at)) where
-    pub no_names : {r : ReadHead} → not w.ok ≡ true → r ≡ no_head w.next → Says (head.parse s at) r clean
+  pub no_names : {e : Malformed} → Err e ≡ word_of (word_p head_names s at) → Says (head.parse s at) (Err e) clean
+  unfolding head
+  no_names {e} x = refused e.at (rw (word_bad (word_p head_names s at) x))
+
+  module _ {w : ℕ} (ew : Ok w ≡ word_of (word_p head_names s at)) where
+    pub no_numbers : {e : Malformed} → Err e ≡ counts_of (counts.parse s w) → Says (head.parse s at) (Err e) clean
     unfolding head
-    no_names x y = refused w.next (rw (word_none (word_p head_names s at) ew x)) y
+    no_numbers {e} x =
+        refused e.at
+        (rw (word_got (word_p head_names s at) ew, (numbers_name s).reads w, counts_none (counts.parse s w) x))
 
-    module _ (xw : not w.ok ≡ false) {k : Counts} (ek : k ≡ counts_of (counts.parse s w.next)) where
-      pub no_numbers : {r : ReadHead} → not k.ok ≡ true → r ≡ no_head k.next → Says (head.parse s at) r clean
-      unfolding head
-      no_numbers x y =
-          refused k.next
+    module _ {k : Counts} (ek : Ok k ≡ counts_of (counts.parse s w)) where
+      pub no_mark : {e : Malformed} → Err e ≡ word_of (byte_p 116 s k.next) → Says (head.parse s at) (Err e) clean
+      unfolding head text_field bytes
+      no_mark {e} x =
+          refused e.at
           (rw (
-            word_read (word_p head_names s at) ew xw,
-            (numbers_name s).reads w.next,
-            counts_none (counts.parse s w.next) ek x,
-          )) y
+            word_got (word_p head_names s at) ew,
+            (numbers_name s).reads w,
+            counts_read (counts.parse s w) ek,
+            word_byte 116 s k.next ∙ word_bad (byte_p 116 s k.next) x,
+          ))
 
-      module _ (xk : not k.ok ≡ false) {m : Field} (em : m ≡ word_of (byte_p 116 s k.next)) where
-        pub no_mark : {r : ReadHead} → not m.ok ≡ true → r ≡ no_head m.next → Says (head.parse s at) r clean
+      module _ {m : ℕ} (em : Ok m ≡ word_of (byte_p 116 s k.next)) where
+        -- what is left is the name
+        last : (g : Got (List ℕ)) → pairs_from 10 m (drop m s) ≡ g
+            → head.parse s at ≡ then g (λ n q. got (to_head (named (told k) n)) q)
         unfolding head text_field bytes
-        no_mark x y =
-            refused m.next
-            (rw (
-              word_read (word_p head_names s at) ew xw,
-              (numbers_name s).reads w.next,
-              counts_read (counts.parse s w.next) ek xk,
-              word_byte 116 s k.next ∙ word_none (byte_p 116 s k.next) em x,
-            )) y
+        last g e =
+            rw (
+              word_got (word_p head_names s at) ew,
+              (numbers_name s).reads w,
+              counts_read (counts.parse s w) ek,
+              word_byte 116 s k.next ∙ word_got (byte_p 116 s k.next) em,
+              e,
+            ) (go g)
+          where
+            go : (g : Got (List ℕ)) → then (then g (λ n q. got (named (told k) n) q)) (λ x q. got (to_head x) q)
+                ≡ then g (λ n q. got (to_head (named (told k) n)) q)
+            go (got n q) = refl
+            go (bad p) = refl
 
-        module _ (xm : not m.ok ≡ false) {f : ReadText}
-            (ef : f ≡ text_of (pairs_from 10 m.next (drop m.next s)) 0 (length clean)) where
-          -- what is left is the name
-          last : (g : Got (List ℕ)) → pairs_from 10 m.next (drop m.next s) ≡ g
-              → head.parse s at ≡ then g (λ n q. got (to_head (named (told k) n)) q)
-          unfolding head text_field bytes
-          last g e =
-              rw (
-                word_read (word_p head_names s at) ew xw,
-                (numbers_name s).reads w.next,
-                counts_read (counts.parse s w.next) ek xk,
-                word_byte 116 s k.next ∙ word_read (byte_p 116 s k.next) em xm,
-                e,
-              ) (go g)
+        long : length clean ≡ length pool
+        long = ap length cleared ∙ length-replicate (length pool) 0
+
+        module _ {after : List ℕ} (ep : after ≡ pooled (pairs_from 10 m (drop m s)) 0 clean) where
+          pub no_name : {e : Malformed} → Err e ≡ text_of (pairs_from 10 m (drop m s)) 0 (length clean)
+              → Says (head.parse s at) (Err e) after
+          no_name {e} x = go (pairs_from 10 m (drop m s)) refl x ep
             where
-              go : (g : Got (List ℕ)) → then (then g (λ n q. got (named (told k) n) q)) (λ x q. got (to_head x) q)
-                  ≡ then g (λ n q. got (to_head (named (told k) n)) q)
-              go (got n q) = refl
-              go (bad p) = refl
+              go : (g : Got (List ℕ)) → pairs_from 10 m (drop m s) ≡ g → Err e ≡ text_of g 0 (length clean)
+                  → after ≡ pooled g 0 clean → Says (head.parse s at) (Err e) after
+              go (got n q) h d p = absurd (cc)
+              go (bad q) h d p =
+                  let z : e ≡ record { at = q } = cc in rw (last (bad q) h, z) (refl, p ∙ ap (λ (n : ℕ). replicate n 0) long)
 
-          long : length clean ≡ length pool
-          long = ap length cleared ∙ length-replicate (length pool) 0
-
-          pub no_name : {r : ReadHead} {after : List ℕ} → after ≡ pooled (pairs_from 10 m.next (drop m.next s)) 0 clean
-              → not f.ok ≡ true → r ≡ no_head f.next → Says (head.parse s at) r after
-          no_name {r} {after} ep x y = go (pairs_from 10 m.next (drop m.next s)) refl ef ep
-            where
-              go : (g : Got (List ℕ)) → pairs_from 10 m.next (drop m.next s) ≡ g → f ≡ text_of g 0 (length clean)
-                  → after ≡ pooled g 0 clean → Says (head.parse s at) r after
-              go (got n q) e d p = clash (not f.ok) false x refl (ap (λ (z : ReadText). not z.ok) d)
-              go (bad q) e d p = rw (last (bad q) e) (y ∙ rw d, p ∙ ap (λ (n : ℕ). replicate n 0) long)
-
-          abbrev read : ReadHead
-          read =
-              record {
-                ok = true;
+          pub head_answer : {f : ReadText} → Ok f ≡ text_of (pairs_from 10 m (drop m s)) 0 (length clean)
+              → Says (head.parse s at) (Ok (record {
                 fits = f.fits;
                 limit = k.limit;
                 start = k.start;
@@ -231,14 +162,21 @@ module _ (s : List ℕ) (at : ℕ) (pool : List ℕ) {clean : List ℕ} (cleared
                 rules = k.rules;
                 name = f.length;
                 next = f.next;
-              }
-
-          pub head_answer : {after : List ℕ} → after ≡ pooled (pairs_from 10 m.next (drop m.next s)) 0 clean → not f.ok ≡ false
-              → Says (head.parse s at) read after
-          head_answer {after} ep x = go (pairs_from 10 m.next (drop m.next s)) refl ef ep
+              })) after
+          head_answer {f} x = go (pairs_from 10 m (drop m s)) refl x ep
             where
-              go : (g : Got (List ℕ)) → pairs_from 10 m.next (drop m.next s) ≡ g → f ≡ text_of g 0 (length clean)
-                  → after ≡ pooled g 0 clean → Says (head.parse s at) read after
-              go (got n q) e d p =
-                  rw (last (got n q) e) (rw (d, long), p ∙ ap (λ (l : List ℕ). all_or 0 true l 0 n) cleared)
-              go (bad q) e d p = clash true (not f.ok) refl x (sym (ap (λ (z : ReadText). not z.ok) d))
+              go : (g : Got (List ℕ)) → pairs_from 10 m (drop m s) ≡ g → Ok f ≡ text_of g 0 (length clean)
+                  → after ≡ pooled g 0 clean → Says (head.parse s at) (Ok (record {
+                    fits = f.fits;
+                    limit = k.limit;
+                    start = k.start;
+                    cells = k.cells;
+                    regions = k.regions;
+                    rules = k.rules;
+                    name = f.length;
+                    next = f.next;
+                  })) after
+              go (got n q) h d p =
+                  let z : f ≡ record { fits = fits (length clean) 0 (length n); length = length n; next = q } = cc in
+                  rw (last (got n q) h) (rw (z, long), p ∙ ap (λ (l : List ℕ). all_or 0 true l 0 n) cleared)
+              go (bad q) h d p = absurd (cc)

@@ -1,2 +1,3 @@
+pub mod Told
 pub mod Heads
 pub mod WorkedHead

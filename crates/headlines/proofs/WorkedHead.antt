@@ -3,6 +3,7 @@
 use mathlib.Core.Path.{◌≡◌, refl}
 use mathlib.Core.Bool.{true, false}
 use mathlib.Core.List.{[], ◌∷◌}
+use Rattle.std.specs.Prelude.{Ok, Err}
 use Rattle.memory.specs.Memory.{all_or}
 use Rattle.grammar.specs.Gram.{Got}
 use Rattle.grammar.specs.Gram.Got.{got, bad}
@@ -12,7 +13,7 @@ use Rattle.jobtext.proofs.WorkedText.{lines, worked_with, worked_text}
 use Rattle.headlines.specs.Heads.{head_of, head_pooled}
 
 worked_head : head_of (head.parse worked_text 0) 2
-    ≡ record { ok = true; fits = true; limit = 100; start = 0; cells = 3; regions = 3; rules = 2; name = 1; next = 53 }
+    ≡ Ok (record { fits = true; limit = 100; start = 0; cells = 3; regions = 3; rules = 2; name = 1; next = 53 })
 unfolding reading lines worked_text worked_with
 worked_head = refl
 
@@ -21,7 +22,7 @@ unfolding reading lines worked_text worked_with all_or
 worked_pool = refl
 
 leading_zero : head_of (head.parse (worked_with "100 0 3 03 2 t53") 0) 2
-    ≡ record { ok = false; fits = false; limit = 0; start = 0; cells = 0; regions = 0; rules = 0; name = 0; next = 46 }
+    ≡ Err (record { at = 46 })
 unfolding reading lines worked_text worked_with
 leading_zero = refl
 
@@ -30,12 +31,12 @@ leading_zero = refl
 abbrev named : Got Head
 named = got (record { limit = 9; start = 8; cells = 7; regions = 6; rules = 5; name = 0x41 ∷ 0x42 ∷ [] }) 4
 
-short : (head_of named 1 ≡ record { ok = true; fits = false; limit = 9; start = 8; cells = 7; regions = 6; rules = 5; name = 2; next = 4 })
+short : (head_of named 1 ≡ Ok (record { fits = false; limit = 9; start = 8; cells = 7; regions = 6; rules = 5; name = 2; next = 4 }))
     × (head_pooled named 1 ≡ 0 ∷ [])
 unfolding all_or
 short = (refl, refl)
 
-exact : (head_of named 2 ≡ record { ok = true; fits = true; limit = 9; start = 8; cells = 7; regions = 6; rules = 5; name = 2; next = 4 })
+exact : (head_of named 2 ≡ Ok (record { fits = true; limit = 9; start = 8; cells = 7; regions = 6; rules = 5; name = 2; next = 4 }))
     × (head_pooled named 2 ≡ 0x41 ∷ 0x42 ∷ [])
 unfolding all_or
 exact = (refl, refl)

@@ -1,12 +1,13 @@
 -- What the readers of the first two lines answer for each result of the grammar, and what the sheet's name leaves in the pool.
 -- Assumes nothing.
-use Rattle.std.specs.Prelude.{ℕ, true, false, List, length, replicate}
+use Rattle.std.specs.Prelude.{ℕ, true, List, length, replicate, Result, Ok, Err}
 use Rattle.memory.specs.Memory.{fits, page_of}
 use Rattle.grammar.specs.Gram.{Got, Gram}
 use Rattle.grammar.specs.Gram.Got.{got, bad}
 use Rattle.grammar.specs.Parts.{both}
 use Rattle.jobtext.specs.Fields.{count}
 use Rattle.jobtext.specs.Text.{Head}
+use Rattle.fields.specs.declared.Malformed.{Malformed}
 use Rattle.headlines.specs.declared.Counts.{Counts}
 use Rattle.headlines.specs.declared.ReadHead.{ReadHead}
 
@@ -17,24 +18,22 @@ counts_t = ℕ × (ℕ × (ℕ × (ℕ × ℕ)))
 unfoldable pub counts : Gram counts_t
 counts = both count (both count (both count (both count count)))
 
-abbrev pub counts_of : Got counts_t → Counts
+abbrev pub counts_of : Got counts_t → Result Counts Malformed
 counts_of (got x q) =
-    record {
-      ok = true;
+    Ok (record {
       limit = x.0;
       start = x.1.0;
       cells = x.1.1.0;
       regions = x.1.1.1.0;
       rules = x.1.1.1.1;
       next = q;
-    }
-counts_of (bad p) = record { ok = false; limit = 0; start = 0; cells = 0; regions = 0; rules = 0; next = p }
+    })
+counts_of (bad p) = Err (record { at = p })
 
 -- the name is told by its length: its bytes go to a pool of some size
-abbrev pub head_of : Got Head → ℕ → ReadHead
+abbrev pub head_of : Got Head → ℕ → Result ReadHead Malformed
 head_of (got h q) size =
-    record {
-      ok = true;
+    Ok (record {
       fits = fits size 0 (length h.name);
       limit = h.limit;
       start = h.start;
@@ -43,9 +42,8 @@ head_of (got h q) size =
       rules = h.rules;
       name = length h.name;
       next = q;
-    }
-head_of (bad p) size =
-    record { ok = false; fits = false; limit = 0; start = 0; cells = 0; regions = 0; rules = 0; name = 0; next = p }
+    })
+head_of (bad p) size = Err (record { at = p })
 
 -- the pool holds the name alone, or zeros from end to end
 abbrev pub head_pooled : Got Head → ℕ → List ℕ

@@ -51,6 +51,12 @@ pub compared_byte : (w : Wanted) (needed : Bool) (x y : Float) (byte : ℕ)
 unfolding say_compared compared
 compared_byte w needed x y = chosen_is _ (compared w x y)
 
+meets_interval : (inside : Bool) (low high x : Float)
+    → meets (interval inside low high) x ≡ cond inside (le low x && le x high) (lt x low || lt high x)
+unfolding meets
+meets_interval true low high x = refl
+meets_interval false low high x = refl
+
 pub between_byte : (inside : Bool) (x low high : Float) (byte : ℕ)
     → Chosen (eq x x && (not (eq low low) || not (eq high high)))
     ((inside && le low x && le x high) || (not inside && (lt x low || lt high x))) byte
@@ -61,4 +67,4 @@ between_byte inside x low high byte h =
     let same : (inside && le low x && le x high) || (not inside && (lt x low || lt high x)) ≡ met =
     ap (λ t. t || (not inside && (lt x low || lt high x))) (and_assoc inside (le low x) (le x high))
     ∙ one_of inside (le low x && le x high) (lt x low || lt high x) in
-    chosen_is (eq x x && (not (eq low low) || not (eq high high))) met byte (rw same at h)
+    rw (meets_interval inside low high x) (chosen_is (eq x x && (not (eq low low) || not (eq high high))) met byte (rw same at h))

@@ -1,8 +1,9 @@
 -- What is found of a test whose outcomes are known, what there is where the tables fit, and that the columns may be cut to the regions.
 -- Assumes nothing.
+use Rattle.std.specs.Prelude.{Some, None}
 use Prim.Native.Nat.{ℕ, ◌+◌, ◌-◌, ◌≤◌, ◌<◌}
 use mathlib.Core.Path.{◌≡◌, refl, sym, ap, ◌∙◌}
-use mathlib.Core.Bool.{Bool, true, false, ◌&&◌}
+use mathlib.Core.Bool.{Bool, true, false, cond, ◌&&◌}
 use mathlib.Core.List.{List}
 use native.Mathlib.Omega.{arith}
 use lib.Ieee.{nan}
@@ -16,7 +17,8 @@ use Rattle.model.specs.declared.Range.{Range}
 use Rattle.model.specs.declared.Test.{Test}
 use Rattle.model.specs.Run.{is_unresolved}
 use Rattle.hits.specs.Said.{byte_of}
-use Rattle.hits.specs.Hits.{Known, known, verdict_by, outcomes_by, Says, hits_from, hits_of, unresolved_from, fits_hits, found_in}
+use Rattle.hits.specs.Hits.{Known, known, verdict_by, outcomes_by, Says, hits_from, hits_of, unresolved_from, fits_hits, found_among, found_in}
+use Rattle.hits.specs.declared.Found.{Found}
 use Rattle.hits.specs.Chosen.{Tells}
 use Rattle.hits.proofs.Hitting.{outcomes_long, outcomes_byte}
 
@@ -24,26 +26,57 @@ use Rattle.hits.proofs.Hitting.{outcomes_long, outcomes_byte}
 
 module _ (from : ℕ) (os : List Outcome) where
   pub found_unresolved : {at : ℕ} → is_unresolved os ≡ true → unresolved_from from os ≡ at
-      → record { fits = true; unresolved = true; at = at; count = 0 } ≡ found_in true from os
-  unfolding found_in hits_of
+      → record { unresolved = Some at; count = 0 } ≡ found_among from os
+  unfolding found_among hits_of
   found_unresolved e a = rw (e, a)
 
   pub page_unresolved : (room : ℕ) → is_unresolved os ≡ true → replicate room 0 ≡ page_of true room (hits_of from os)
   unfolding hits_of
   page_unresolved room e = rw e (sym (all_none 0 (replicate room 0) 0 (omega arith)))
 
-  pub found_resolved : {at count : ℕ} → is_unresolved os ≡ false → unresolved_from from os ≡ at → count ≡ length (hits_from from os)
-      → record { fits = true; unresolved = false; at = at; count = count } ≡ found_in true from os
-  unfolding found_in hits_of
-  found_resolved e a c = rw (e, a, c)
+  pub found_resolved : {count : ℕ} → is_unresolved os ≡ false → count ≡ length (hits_from from os)
+      → record { unresolved = None; count = count } ≡ found_among from os
+  unfolding found_among hits_of
+  found_resolved e c = rw (e, c)
 
   pub hits_resolved : is_unresolved os ≡ false → hits_from from os ≡ hits_of from os
   unfolding hits_of
   hits_resolved e = rw e
 
-  pub found_unfit : record { fits = false; unresolved = false; at = 0; count = 0 } ≡ found_in false from os
+  pub found_unfit : None ≡ found_in false from os
   unfolding found_in
   found_unfit = refl
+
+  pub found_fit : {f : Found} → f ≡ found_among from os → Some f ≡ found_in true from os
+  unfolding found_in
+  found_fit e = ap Some e
+
+  -- what is found where the tables fit
+  pub fit_found : {fits : Bool} {f : Found} → fits ≡ true → Some f ≡ found_in fits from os → f ≡ found_among from os
+  unfolding found_in
+  fit_found e is = let some = rw e at is in cc
+
+  pub never_unfit : {fits : Bool} → fits ≡ true → None ≡ found_in fits from os → ⊥
+  unfolding found_in
+  never_unfit e is = let some = rw e at is in cc
+
+  -- what it says of the test
+  pub unresolved_at : {f : Found} {at : ℕ} → f ≡ found_among from os → f.unresolved ≡ Some at
+      → (is_unresolved os ≡ true) × (unresolved_from from os ≡ at)
+  unfolding found_among
+  unresolved_at is some = decided (is_unresolved os) (sym (ap (λ (g : Found). g.unresolved) is) ∙ some)
+    where
+      decided : (b : Bool) {u at : ℕ} → cond b (Some u) None ≡ Some at → (b ≡ true) × (u ≡ at)
+      decided true e = (refl, cc)
+      decided false e = (cc, cc)
+
+  pub all_resolved : {f : Found} → f ≡ found_among from os → f.unresolved ≡ None → is_unresolved os ≡ false
+  unfolding found_among
+  all_resolved is none = decided (is_unresolved os) (unresolved_from from os) (sym (ap (λ (g : Found). g.unresolved) is) ∙ none)
+    where
+      decided : (b : Bool) (u : ℕ) → cond b (Some u) None ≡ None → b ≡ false
+      decided true u e = cc
+      decided false u e = refl
 
 -- ---- what fits
 

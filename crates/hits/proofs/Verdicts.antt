@@ -1,16 +1,17 @@
 -- The bytes that the comparisons of floats give are those of the verdicts, test by test, whether a cell or an operand has a number or not.
 -- Assumes nothing.
+use Rattle.std.specs.Prelude.{Some, None}
 use Prim.Native.Nat.{ℕ}
 use mathlib.Core.Path.{◌≡◌, refl, sym, ap, ◌∙◌}
 use mathlib.Core.Bool.{Bool, true, false, cond, not, ◌&&◌, ◌||◌, and-false, or-false, true≢false, false≢true}
 use lib.Dec.{ltb, eqb}
-use lib.Ieee.{Float, nan, lt, le, eq}
+use lib.Ieee.{Float, nan, le, eq}
 use Rattle.model.specs.declared.ConditionalComparison.{ConditionalComparison}
 use Rattle.model.specs.declared.ConditionalOperand.{ConditionalOperand}
 use Rattle.model.specs.declared.DvOp.{DvOp}
 use Rattle.model.specs.declared.Normalized.{Normalized}
 use Rattle.model.specs.declared.Outcome.{Outcome}
-use Rattle.model.specs.declared.Reading.{Reading}
+use Rattle.model.specs.Options.{Reading}
 use Rattle.model.specs.declared.Rgb.{Rgb}
 use Rattle.model.specs.declared.Test.{Test}
 use Rattle.model.specs.Comparison.{uses_second, between, not_between, compare_conditional, compare}
@@ -63,7 +64,7 @@ pub on_number : (x : Float) (say : Float → Outcome) (byte : ℕ) → (IsNumber
 unfolding reading_of on_value byte_of
 on_number x say byte f g = decided (eq x x) refl
   where
-    decided : (t : Bool) → eq x x ≡ t → byte ≡ byte_of (on_value (cond t (Reading.Number x) Reading.Nothing) say)
+    decided : (t : Bool) → eq x x ≡ t → byte ≡ byte_of (on_value (cond t (Some x) None) say)
     decided true e = f e
     decided false e = g (not_number x e)
 
@@ -71,11 +72,8 @@ on_number x say byte f g = decided (eq x x) refl
 
 meets_nan : (v : Interval) → meets v nan ≡ false
 unfolding meets
-meets_nan v = decided v.inside
-  where
-    decided : (t : Bool) → cond t (le v.low nan && le nan v.high) (lt nan v.low || lt v.high nan) ≡ false
-    decided true = rw (nan_le v.high) (and-false (le v.low nan))
-    decided false = rw (nan_lt v.low) (lt_nan v.high)
+meets_nan (Interval.Inside low high) = rw (nan_le high) (and-false (le low nan))
+meets_nan (Interval.Outside low high) = rw (nan_lt low) (lt_nan high)
 
 pub interval_nan : (v : Interval) → say_interval v nan ≡ 0
 unfolding say_interval
@@ -111,8 +109,8 @@ expression_said op w met fill imported x y = decided (eq x x) (eq y y) refl refl
   where
     decided : (s t : Bool) → eq x x ≡ s → eq y y ≡ t
         → cond ((not t && (s || true)) || (not s && true)) 2 (cond (compared w x y) 1 0)
-        ≡ byte_of (on_operand (cond s (Reading.Number x) Reading.Nothing) (λ a.
-        on_operand (cond t (Reading.Number y) Reading.Nothing) (λ b. filled_if (compare op a b) imported fill)))
+        ≡ byte_of (on_operand (cond s (Some x) None) (λ a.
+        on_operand (cond t (Some y) None) (λ b. filled_if (compare op a b) imported fill)))
     decided true true p q = met_byte imported fill (met x y p q)
     decided true false p q = refl
     decided false true p q = refl
@@ -132,7 +130,7 @@ second_unused DvOp.GreaterThanOrEqual h x a b c = refl
 second_unused DvOp.LessThanOrEqual h x a b c = refl
 
 meets_between : (op : DvOp) → uses_second op ≡ true → (x a b : Float)
-    → meets (interval (is_between op) a b) x ≡ compare_conditional x op a (Reading.Number b)
+    → meets (interval (is_between op) a b) x ≡ compare_conditional x op a (Some b)
 unfolding uses_second compare_conditional is_between meets between not_between
 meets_between DvOp.Between h x a b = refl
 meets_between DvOp.NotBetween h x a b = refl
@@ -145,9 +143,9 @@ meets_between DvOp.LessThanOrEqual h x a b = absurd (false≢true h)
 
 -- a literal that counts as read, and the float that it is taken for
 literal_read : (o : ConditionalOperand) (a : Float) → is_literal o ≡ true → ((u : Float) → o ≡ ConditionalOperand.Literal u → a ≡ u)
-    → (finite a ≡ true) × (literal_of o ≡ Reading.Number a)
+    → (finite a ≡ true) × (literal_of o ≡ Some a)
 unfolding is_literal literal_of literal
-literal_read (ConditionalOperand.Literal u) a h f = (ap finite (f u refl) ∙ h, rw h (ap Reading.Number (sym (f u refl))))
+literal_read (ConditionalOperand.Literal u) a h f = (ap finite (f u refl) ∙ h, rw h (ap Some (sym (f u refl))))
 literal_read (ConditionalOperand.Reference r) a h f = absurd (false≢true h)
 literal_read ConditionalOperand.Unread a h f = absurd (false≢true h)
 
@@ -161,8 +159,8 @@ module _ (op : DvOp) (fill : Rgb) (imported : Bool) (x : Float) where
     where
       decided : IsNumber x → (t : Bool) → eq y y ≡ t
           → cond ((not t && true) || false) 2 (cond (compared w x y) 1 0)
-          ≡ byte_of (on_operand (cond t (Reading.Number y) Reading.Nothing) (λ a. filled_if (compare_conditional x op a Reading.Nothing) imported fill))
-      decided p true q = met_byte imported fill (met x y Reading.Nothing one p q)
+          ≡ byte_of (on_operand (cond t (Some y) None) (λ a. filled_if (compare_conditional x op a None) imported fill))
+      decided p true q = met_byte imported fill (met x y None one p q)
       decided p false q = refl
 
   pub between_said : uses_second op ≡ true → (a b : Float)
@@ -171,8 +169,8 @@ module _ (op : DvOp) (fill : Rgb) (imported : Bool) (x : Float) where
   between_said two a b = on_number x _ _ (λ p. rw (p, two) (decided (eq a a) (eq b b))) (λ e. rw e (between_none (is_between op) a b))
     where
       decided : (s t : Bool) → cond (not s || not t) 2 (cond (meets (interval (is_between op) a b) x) 1 0)
-          ≡ byte_of (on_operand (cond s (Reading.Number a) Reading.Nothing) (λ a.
-          on_second true (cond t (Reading.Number b) Reading.Nothing) (λ b. filled_if (compare_conditional x op a b) imported fill)))
+          ≡ byte_of (on_operand (cond s (Some a) None) (λ a.
+          on_second true (cond t (Some b) None) (λ b. filled_if (compare_conditional x op a b) imported fill)))
       decided true true = met_byte imported fill (meets_between op two x a b)
       decided true false = refl
       decided false t = refl
@@ -180,7 +178,7 @@ module _ (op : DvOp) (fill : Rgb) (imported : Bool) (x : Float) where
   pub literals_said : (v : Interval) (first second : ConditionalOperand) (a b : Float)
       → by_literals (Test.CellIs op first second fill) ≡ true
       → ((u : Float) → first ≡ ConditionalOperand.Literal u → a ≡ u) → ((u : Float) → second ≡ ConditionalOperand.Literal u → b ≡ u)
-      → ((x : Float) → finite a ≡ true → IsNumber x → meets v x ≡ compare_conditional x op a (Reading.Number b))
+      → ((x : Float) → finite a ≡ true → IsNumber x → meets v x ≡ compare_conditional x op a (Some b))
       → say_interval v x ≡ byte_of (cell_is op fill imported (reading_of x) (literal_of first) (literal_of second))
   unfolding by_literals say_interval cell_is on_operand on_second
   literals_said v first second a b h f g met =
@@ -191,11 +189,11 @@ module _ (op : DvOp) (fill : Rgb) (imported : Bool) (x : Float) where
       literals : (is_literal first ≡ true) × (is_literal second || not (uses_second op) ≡ true)
       literals = (and_true (is_literal first) (is_literal second || not (uses_second op))).0 h
 
-      read : (finite a ≡ true) × (literal_of first ≡ Reading.Number a)
+      read : (finite a ≡ true) × (literal_of first ≡ Some a)
       read = literal_read first a literals.0 f
 
       decided : (t : Bool) → uses_second op ≡ t → is_literal second || not t ≡ true
           → on_second t (literal_of second) (λ b. filled_if (compare_conditional x op a b) imported fill)
-          ≡ filled_if (compare_conditional x op a (Reading.Number b)) imported fill
+          ≡ filled_if (compare_conditional x op a (Some b)) imported fill
       decided true e l = rw (literal_read second b (sym (or-false (is_literal second)) ∙ l) g).1
-      decided false e l = ap (λ m. filled_if m imported fill) (second_unused op e x a Reading.Nothing (Reading.Number b))
+      decided false e l = ap (λ m. filled_if m imported fill) (second_unused op e x a None (Some b))

@@ -1,12 +1,12 @@
 -- The regions that a test paints, by what is known of each region ahead of it: the number of its cell, the numbers that the operands read
 -- as from it, and how many cells in range have its key, each a column. The regions stand in rows of the range, so that only their columns
 -- are compared. Assumes nothing.
-use Rattle.std.specs.Prelude.{ℕ, zero, suc, ◌+◌, ◌-◌, ◌<◌, ◌≡◌, Bool, true, false, cond, not, ◌&&◌, ◌||◌, List, [], ◌∷◌, leb, ltb, eqb, Float, length, get_or}
+use Rattle.std.specs.Prelude.{ℕ, zero, suc, ◌+◌, ◌-◌, ◌<◌, ◌≡◌, Bool, false, cond, not, ◌&&◌, ◌||◌, List, [], ◌∷◌, leb, ltb, eqb, Float, length, get_or, Option, Some, None}
 use Rattle.std.specs.Float.{nan}
 use Rattle.model.specs.declared.ConditionalOperand.{ConditionalOperand}
 use Rattle.model.specs.declared.Outcome.{Outcome}
 use Rattle.model.specs.declared.Range.{Range}
-use Rattle.model.specs.declared.Reading.{Reading}
+use Rattle.model.specs.Options.{Reading}
 use Rattle.model.specs.declared.Test.{Test}
 use Rattle.model.specs.Readings.{finite}
 use Rattle.model.specs.References.{literal}
@@ -35,8 +35,8 @@ is_literal ConditionalOperand.Unread = false
 
 unfoldable pub literal_of : ConditionalOperand → Reading
 literal_of (ConditionalOperand.Literal x) = literal x
-literal_of (ConditionalOperand.Reference f) = Reading.Nothing
-literal_of ConditionalOperand.Unread = Reading.Nothing
+literal_of (ConditionalOperand.Reference f) = None
+literal_of ConditionalOperand.Unread = None
 
 -- a cell-is test whose operands are literals, as far as it uses them: no column is looked at for them
 unfoldable pub by_literals : Test → Bool
@@ -118,8 +118,11 @@ fits_hits from to k cols flags room =
     leb from to && leb to 1024 && ltb (to - from) room && leb to (length cols) && leb to (length flags) && leb to (length k.values)
     && leb to (length k.firsts) && leb to (length k.seconds) && leb to (length k.founds)
 
-unfoldable pub found_in : Bool → ℕ → List Outcome → Found
-found_in fits from os =
-    cond fits
-    (record { fits = true; unresolved = is_unresolved os; at = unresolved_from from os; count = length (hits_of from os) })
-    (record { fits = false; unresolved = false; at = 0; count = 0 })
+-- the region that leaves the test unresolved, if one does, and how many it paints
+unfoldable pub found_among : ℕ → List Outcome → Found
+found_among from os =
+    record { unresolved = cond (is_unresolved os) (Some (unresolved_from from os)) None; count = length (hits_of from os) }
+
+-- nothing where the tables do not fit
+unfoldable pub found_in : Bool → ℕ → List Outcome → Option Found
+found_in fits from os = cond fits (Some (found_among from os)) None

@@ -4,7 +4,6 @@
 use Rattle.std.specs.Prelude.{ℕ, ◌+◌, Bool, cond, Float}
 use Rattle.std.specs.Float.Ieee.{le}
 use Rattle.model.specs.declared.Paint.{Paint}
-use Rattle.model.specs.declared.Rgb.{Rgb}
 use Rattle.model.specs.declared.Test.{Test}
 use Rattle.model.specs.Ratio.{normalized, ratio, shape_number, interpolate_rgb, packed}
 

@@ -1,11 +1,11 @@
 -- What a test says of a region as a byte: 0 if it passes the region over, 1 if it paints it, 2 if the region leaves it unresolved. And the
 -- same by comparisons of floats alone, where not-a-number stands for no number. Assumes nothing.
-use Rattle.std.specs.Prelude.{ℕ, Bool, true, false, cond, not, ◌&&◌, ◌||◌, ltb, eqb, Float}
+use Rattle.std.specs.Prelude.{ℕ, Bool, true, false, cond, not, ◌&&◌, ◌||◌, ltb, eqb, Float, Some, None}
 use Rattle.std.specs.Float.{nan}
 use Rattle.std.specs.Float.Ieee.{lt, le, eq}
 use Rattle.model.specs.declared.DvOp.{DvOp}
 use Rattle.model.specs.declared.Outcome.{Outcome}
-use Rattle.model.specs.declared.Reading.{Reading}
+use Rattle.model.specs.Options.{Reading}
 use Rattle.hits.specs.declared.Interval.{Interval}
 use Rattle.hits.specs.declared.Wanted.{Wanted}
 
@@ -13,12 +13,12 @@ use Rattle.hits.specs.declared.Wanted.{Wanted}
 
 -- the float that a column has for a reading
 unfoldable pub as_float : Reading → Float
-as_float (Reading.Number x) = x
-as_float Reading.Nothing = nan
+as_float (Some x) = x
+as_float None = nan
 
 -- what a float of a column reads as
 unfoldable pub reading_of : Float → Reading
-reading_of x = cond (eq x x) (Reading.Number x) Reading.Nothing
+reading_of x = cond (eq x x) (Some x) None
 
 -- ---- bytes
 
@@ -29,11 +29,12 @@ byte_of Outcome.Unresolved = 2
 byte_of (Outcome.Painted p) = 1
 
 abbrev pub interval : Bool → Float → Float → Interval
-interval inside low high = record { inside = inside; low = low; high = high }
+interval inside low high = cond inside (Interval.Inside low high) (Interval.Outside low high)
 
 -- a number inside an interval with both its ends, or outside it; not-a-number is neither
 unfoldable pub meets : Interval → Float → Bool
-meets v x = cond v.inside (le v.low x && le x v.high) (lt x v.low || lt v.high x)
+meets (Interval.Inside low high) x = le low x && le x high
+meets (Interval.Outside low high) x = lt x low || lt high x
 
 unfoldable pub say_interval : Interval → Float → ℕ
 say_interval v x = cond (meets v x) 1 0

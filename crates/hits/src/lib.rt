@@ -4,10 +4,10 @@
 mod intervals;
 mod said;
 
-ghost use Rattle.std.specs.Prelude.{ℕ, ◌+◌, ◌-◌, ◌<◌, ◌≤◌, ◌≡◌, Bool, true, false, cond, List, length, get_or};
+ghost use Rattle.std.specs.Prelude.{ℕ, ◌+◌, ◌-◌, ◌<◌, ◌≤◌, ◌≡◌, MatchOption, Bool, true, false, cond, List, length, get_or};
 ghost use Rattle.memory.specs.Memory.{page_of};
 ghost use Rattle.model.specs.declared.Outcome.{Outcome};
-ghost use Rattle.hits.specs.Hits.{by_literals, live_from, known, outcomes_by, hits_of, fits_hits, found_in};
+ghost use Rattle.hits.specs.Hits.{by_literals, live_from, known, outcomes_by, hits_of, fits_hits, found_among, found_in};
 ghost use Rattle.hits.specs.Chosen.{stands, chosen_from, Tells};
 
 use crate::said::{literals, say};
@@ -15,13 +15,12 @@ use model::{Range, Test};
 
 // The numbers from low to high, both included, or those outside of them.
 #[derive(Clone, Copy)]
-struct Interval {
-    inside: bool,
-    low: f64,
-    high: f64,
+enum Interval {
+    Inside { low: f64, high: f64 },
+    Outside { low: f64, high: f64 },
 }
 
-// How two numbers are to stand to each other.
+// How two numbers may stand to each other: each way is asked without a branch.
 #[derive(Clone, Copy)]
 struct Wanted {
     less: bool,
@@ -29,17 +28,15 @@ struct Wanted {
     more: bool,
 }
 
-// Whether the tables fit the regions; whether the test is unresolved, and at which region first, past the last where it is not; and how
-// many regions it paints. Where the tables do not fit: false, 0 and 0.
+// The first region that leaves the test unresolved, if one does, and how many regions it paints: none where it is unresolved.
 #[derive(Clone, Copy)]
 pub struct Found {
-    pub fits: bool,
-    pub unresolved: bool,
-    pub at: usize,
+    pub unresolved: Option<usize>,
     pub count: usize,
 }
 
 // Whether a test is a cell-is test whose operands are literals, as far as it uses them: then no column is looked at for them.
+#[tactic(auto, unfolding(crate::specs::Hits::by_literals))]
 pub fn by_literals(test: Test) -> bool
     ensures { result ≡ by_literals test }
 {
@@ -59,51 +56,44 @@ pub fn live(flags: &[u8]) -> u64
     ensures { result ≡ live_from flags.now 0 (length flags.now) }
 {
     let mut count = 0;
-    let mut i = 0;
-    while i < flags.len() {
-        count += (flags[i] == 0) as u64;
-        i += 1;
+    for flag in flags {
+        count += (*flag == 0) as u64;
     }
     count
 }
 
 // ---- the regions that are painted
 
-// Whether some region of any kind is unresolved.
+// Whether some region of any kind is unresolved. All are looked at, so that the loop has no branch.
 fn any_unresolved(said: &[u8]) -> bool
     ensures { result ≡ false → (i : ℕ) → i < length said.now → get_or said.now i 0 ≡ 2 → ⊥ }
 {
     let mut any = false;
-    let mut i = 0;
-    while i < said.len() {
-        any = any | (said[i] == 2);
-        i += 1;
+    for byte in said {
+        any = any | (*byte == 2);
     }
     any
 }
 
-// The first region in range, and not stopped, that leaves the test unresolved; the number of regions where there is none.
-fn first_unresolved(range: Range, flags: &[u8], cols: &[u16], said: &[u8]) -> usize
+// The first region in range, and not stopped, that leaves the test unresolved.
+fn first_unresolved(range: Range, flags: &[u8], cols: &[u16], said: &[u8]) -> Option<usize>
     requires { (length said.now ≤ length flags.now) × (length said.now ≤ length cols.now) }
-    ensures within { result ≤ length said.now }
-    ensures ahead { (i : ℕ) → i < result
-        → stands 2 range flags.now cols.now said.now i ≡ false }
-    ensures here { result < length said.now
-        → stands 2 range flags.now cols.now said.now result ≡ true }
+    ensures { MatchOption result
+        ((i : ℕ) → i < length said.now → stands 2 range flags.now cols.now said.now i ≡ false)
+        (λ r. (r < length said.now) × ((i : ℕ) → i < r → stands 2 range flags.now cols.now said.now i ≡ false)
+        × (stands 2 range flags.now cols.now said.now r ≡ true)) }
 {
     if !any_unresolved(said) {
-        return said.len();
+        return None;
     }
-    let mut i = 0;
-    while i < said.len() {
+    for i in 0..said.len() {
         let col = cols[i];
         let inside = (range.left <= col) & (col <= range.right);
         if (said[i] == 2) & (flags[i] == 0) & inside {
-            return i;
+            return Some(i);
         }
-        i += 1;
     }
-    i
+    None
 }
 
 // The bytes become 1 for a region in range, and not stopped, that the test paints, and 0 for every other. Each byte is written, so that
@@ -113,12 +103,10 @@ fn choose(range: Range, flags: &[u8], cols: &[u16], said: &mut [u8])
     ensures { (i : ℕ) → i < length said.old → get_or said.new i 0
         ≡ cond (stands 1 range flags.now cols.now said.old i) 1 0 }
 {
-    let mut i = 0;
-    while i < said.len() {
+    for i in 0..said.len() {
         let col = cols[i];
         let inside = (range.left <= col) & (col <= range.right);
         said[i] = ((said[i] == 1) & (flags[i] == 0) & inside) as u8;
-        i += 1;
     }
 }
 
@@ -130,13 +118,11 @@ fn keep(from: usize, chosen: &[u8], hits: &mut [u16]) -> usize
     ensures count { result ≡ length (chosen_from from chosen.now) }
     ensures hits { hits.new ≡ page_of true (length hits.old) (chosen_from from chosen.now) }
 {
-    lent::clear_u16(hits);
+    hits.fill(0);
     let mut count = 0;
-    let mut i = 0;
-    while i < chosen.len() {
+    for i in 0..chosen.len() {
         hits[count] = (from + i) as u16;
         count += chosen[i] as usize;
-        i += 1;
     }
     hits[count] = 0;
     count
@@ -156,27 +142,21 @@ fn found_by(
     requires { (from + length said.old ≤ 1024) × (length said.old < length hits.old) × (length said.old ≤ length flags.now)
         × (length said.old ≤ length cols.now) }
     ensures found { (os : List Outcome) → Tells range flags.now cols.now said.old os
-        → result ≡ found_in true from os }
+        → result ≡ found_among from os }
     ensures hits { (os : List Outcome) → Tells range flags.now cols.now said.old os
         → hits.new ≡ page_of true (length hits.old) (hits_of from os) }
 {
-    let n = said.len();
-    let first = first_unresolved(range, flags, cols, said);
-    if first < n {
-        lent::clear_u16(hits);
+    if let Some(first) = first_unresolved(range, flags, cols, said) {
+        hits.fill(0);
         return Found {
-            fits: true,
-            unresolved: true,
-            at: from + first,
+            unresolved: Some(from + first),
             count: 0,
         };
     }
     choose(range, flags, cols, said);
     let count = keep(from, said, hits);
     Found {
-        fits: true,
-        unresolved: false,
-        at: from + n,
+        unresolved: None,
         count,
     }
 }
@@ -211,7 +191,7 @@ fn fits(
 
 // The regions from `from` up to `to` that a test paints, in order, with zeros behind them. They stand in rows of the range: only columns
 // are compared. `flags` is 0 for a region that is not stopped. Where a column ends ahead of `to`, `hits` has no room for one more than the
-// regions, `to` is past 1,024 or ahead of `from`, the answer says so and `hits` is 0.
+// regions, `to` is past 1,024 or ahead of `from`, nothing is answered and `hits` is 0.
 pub fn find_hits(
     test: Test,
     range: Range,
@@ -224,7 +204,7 @@ pub fn find_hits(
     seconds: &[f64],
     founds: &[u16],
     hits: &mut [u16],
-) -> Found
+) -> Option<Found>
     ensures found { (imported : Bool) → result ≡ found_in (fits_hits from to (known values.now firsts.now
         seconds.now founds.now) cols.now flags.now (length hits.old)) from
         (outcomes_by (known values.now firsts.now seconds.now founds.now) range test imported
@@ -246,13 +226,8 @@ pub fn find_hits(
         founds,
         hits.len(),
     ) {
-        lent::clear_u16(hits);
-        return Found {
-            fits: false,
-            unresolved: false,
-            at: 0,
-            count: 0,
-        };
+        hits.fill(0);
+        return None;
     }
     let mut said = [0u8; 1024];
     say(
@@ -263,12 +238,12 @@ pub fn find_hits(
         &founds[from..to],
         &mut said,
     );
-    found_by(
+    Some(found_by(
         range,
         from,
         &flags[from..to],
         &cols[from..to],
         &mut said[..to - from],
         hits,
-    )
+    ))
 }

@@ -1,10 +1,9 @@
 // What a test says of each region, a byte each: 0 if it passes the region over, 1 if it paints it, 2 if the region leaves it unresolved.
 // No loop has a branch. Not-a-number, which is what no number is in a column, fails every comparison.
-ghost use Rattle.std.specs.Prelude.{ℕ, ◌<◌, ◌≤◌, ◌≡◌, Bool, true, false, List, Float, length, get_or};
+ghost use Rattle.std.specs.Prelude.{ℕ, ◌<◌, ◌≤◌, ◌≡◌, Option, Bool, true, false, List, Float, length, get_or};
 ghost use Rattle.std.specs.Float.{nan};
 ghost use Rattle.std.specs.Float.Ieee.{eq};
 ghost use Rattle.model.specs.declared.ConditionalOperand.{ConditionalOperand};
-ghost use Rattle.model.specs.declared.Reading.{Reading};
 ghost use Rattle.model.specs.declared.Rgb.{Rgb};
 ghost use Rattle.model.specs.declared.Test.{Test};
 ghost use Rattle.model.specs.Comparison.{uses_second, compare_conditional, compare};
@@ -24,11 +23,9 @@ fn say_inside(values: &[f64], low: f64, high: f64, said: &mut [u8])
     ensures { (i : ℕ) → i < length values.now
         → get_or said.new i 0 ≡ say_interval (interval true low high) (get_or values.now i nan) }
 {
-    let mut i = 0;
-    while i < values.len() {
+    for i in 0..values.len() {
         let x = values[i];
         said[i] = ((low <= x) & (x <= high)) as u8;
-        i += 1;
     }
 }
 
@@ -37,11 +34,9 @@ fn say_outside(values: &[f64], low: f64, high: f64, said: &mut [u8])
     ensures { (i : ℕ) → i < length values.now
         → get_or said.new i 0 ≡ say_interval (interval false low high) (get_or values.now i nan) }
 {
-    let mut i = 0;
-    while i < values.len() {
+    for i in 0..values.len() {
         let x = values[i];
         said[i] = ((x < low) | (high < x)) as u8;
-        i += 1;
     }
 }
 
@@ -50,11 +45,10 @@ fn say_interval(values: &[f64], wanted: Interval, said: &mut [u8])
     ensures { (i : ℕ) → i < length values.now
         → get_or said.new i 0 ≡ say_interval wanted (get_or values.now i nan) }
 {
-    if wanted.inside {
-        say_inside(values, wanted.low, wanted.high, said);
-        return;
+    match wanted {
+        Interval::Inside { low, high } => say_inside(values, low, high, said),
+        Interval::Outside { low, high } => say_outside(values, low, high, said),
     }
-    say_outside(values, wanted.low, wanted.high, said);
 }
 
 // A key that stands once in range, or more than once.
@@ -63,11 +57,9 @@ fn say_counted(founds: &[u16], unique: bool, said: &mut [u8])
     ensures { (i : ℕ) → i < length founds.now
         → get_or said.new i 0 ≡ say_counted unique (get_or founds.now i 0) }
 {
-    let mut i = 0;
-    while i < founds.len() {
+    for i in 0..founds.len() {
         let found = founds[i];
         said[i] = ((unique & (found == 1)) | (!unique & (found > 1))) as u8;
-        i += 1;
     }
 }
 
@@ -79,17 +71,13 @@ fn say_compared(left: &[f64], right: &[f64], wanted: Wanted, needed: bool, said:
     ensures { (i : ℕ) → i < length left.now → get_or said.new i 0
         ≡ say_compared wanted needed (get_or left.now i nan) (get_or right.now i nan) }
 {
-    let less = wanted.less;
-    let same = wanted.same;
-    let more = wanted.more;
-    let mut i = 0;
-    while i < left.len() {
+    let Wanted { less, same, more } = wanted;
+    for i in 0..left.len() {
         let x = left[i];
         let y = right[i];
         let met = (less & (x < y)) | (same & (x == y)) | (more & (y < x));
         let missing = (!(y == y) & ((x == x) | needed)) | (!(x == x) & needed);
         said[i] = if missing { 2 } else { met as u8 };
-        i += 1;
     }
 }
 
@@ -99,20 +87,19 @@ fn say_between(values: &[f64], lows: &[f64], highs: &[f64], inside: bool, said: 
     ensures { (i : ℕ) → i < length values.now → get_or said.new i 0 ≡ say_between inside
         (get_or values.now i nan) (get_or lows.now i nan) (get_or highs.now i nan) }
 {
-    let mut i = 0;
-    while i < values.len() {
+    for i in 0..values.len() {
         let x = values[i];
         let low = lows[i];
         let high = highs[i];
         let met = (inside & (low <= x) & (x <= high)) | (!inside & ((x < low) | (high < x)));
         let missing = (x == x) & (!(low == low) | !(high == high));
         said[i] = if missing { 2 } else { met as u8 };
-        i += 1;
     }
 }
 
 // ---- the tests
 
+#[tactic(auto, unfolding(crate::specs::Hits::is_literal))]
 fn is_literal(operand: ConditionalOperand) -> bool
     ensures { result ≡ is_literal operand }
 {
@@ -140,7 +127,7 @@ fn wanted(less: bool, same: bool, more: bool) -> Wanted
 
 // Of an operator with one operand. The other two compare by an interval.
 fn wanted_of(op: DvOp) -> Wanted
-    ensures { (x y : Float) (second : Reading) → uses_second op ≡ false → eq x x ≡ true → eq y y ≡ true
+    ensures { (x y : Float) (second : Option Float) → uses_second op ≡ false → eq x x ≡ true → eq y y ≡ true
         → compared result x y ≡ compare_conditional x op y second }
 {
     match op {
@@ -169,23 +156,19 @@ fn wanted_for(op: ConditionalComparison) -> Wanted
     }
 }
 
+#[tactic(auto, unfolding(crate::specs::Said::is_between))]
 fn is_between(op: DvOp) -> bool
     ensures { result ≡ is_between op }
 {
-    match op {
-        DvOp::Between => true,
-        _ => false,
-    }
+    matches!(op, DvOp::Between)
 }
 
 // Whether the operands are literals, as far as the operator uses them.
+#[tactic(auto, unfolding(crate::specs::Hits::by_literals))]
 pub(crate) fn literals(op: DvOp, first: ConditionalOperand, second: ConditionalOperand) -> bool
     ensures { (fill : Rgb) → result ≡ by_literals (Test.CellIs op first second fill) }
 {
-    if !is_literal(first) {
-        return false;
-    }
-    is_literal(second) || !uses_second(op)
+    is_literal(first) && (is_literal(second) || !uses_second(op))
 }
 
 fn say_cell_is(

@@ -1,5 +1,6 @@
 -- Texts that are accepted, computed on the definition: every kind of value, operand and rule line, and the job as it is lent.
 -- Assumes nothing.
+use Rattle.std.specs.Prelude.{Some, None}
 use Prim.Native.Nat.{ℕ}
 use Prim.Native.String.{String}
 use mathlib.Core.Path.{◌≡◌, refl}
@@ -9,7 +10,7 @@ use mathlib.Core.Option.{Option, none, some}
 use lib.ListN.{length}
 use Rattle.model.specs.declared.ConditionalComparison.{ConditionalComparison}
 use Rattle.model.specs.declared.DvOp.{DvOp}
-use Rattle.model.specs.declared.Priority.{Priority}
+use Rattle.model.specs.Options.{Priority}
 use Rattle.model.specs.declared.Rgb.{Rgb}
 use Rattle.grammar.specs.Gram.Got.{got}
 use Rattle.grammar.specs.Parts.{bytes}
@@ -129,10 +130,10 @@ flagged priority stop imported =
       kind = Kind.bar (rgb 0 0 10);
     }
 
-stopping : rule_is "1 2 3 4 - 1 0 bar 00000a - - -\n" (flagged Priority.Missing true false)
+stopping : rule_is "1 2 3 4 - 1 0 bar 00000a - - -\n" (flagged None true false)
 unfolding reading
 stopping = refl
 
-imported : rule_is "1 2 3 4 0 0 1 bar 00000a - - -\n" (flagged (Priority.Written 0) false true)
+imported : rule_is "1 2 3 4 0 0 1 bar 00000a - - -\n" (flagged (Some 0) false true)
 unfolding reading
 imported = refl

@@ -1,11 +1,11 @@
 -- The ends of every number of a job text, computed on the definition: the greatest is accepted, one more is refused; and the greatest
 -- counts of cells, regions and rules. Assumes nothing.
+use Rattle.std.specs.Prelude.{Some}
 use Prim.Native.Nat.{ℕ}
 use Prim.Native.String.{String}
 use mathlib.Core.Path.{◌≡◌, refl}
 use mathlib.Core.Bool.{Bool, true, false}
 use mathlib.Core.List.{List, [], ◌∷◌, map}
-use Rattle.model.specs.declared.Priority.{Priority}
 use Rattle.jobtext.specs.Written.{Value, Kind}
 use Rattle.jobtext.specs.Read.{ReadResult, over, read}
 use Rattle.jobtext.proofs.Computing.{reading}
@@ -27,7 +27,7 @@ greatest : read (small "18446744073709551615 18446744073709551615 1 1 1 t" "4294
       rules =
           record {
             range = record { top = 4294967295; left = 65535; bottom = 4294967295; right = 65535 };
-            priority = Priority.Written 4294967295;
+            priority = Some 4294967295;
             stop = false;
             imported = false;
             kind = Kind.rank 4294967295 false false (rgb 0 0 0);

@@ -1,4 +1,5 @@
 -- The grammars of the job text's fields are exact. Assumes nothing.
+use Rattle.std.specs.Prelude.{Some, None}
 use Prim.Native.Nat.{ℕ, zero, suc, ◌≤◌, ◌<◌}
 use mathlib.Core.Path.{◌≡◌, refl}
 use mathlib.Core.Logic.{◌⊎◌, inl, inr}
@@ -9,7 +10,7 @@ use native.Mathlib.Omega.{arith}
 use lib.Dec.{T}
 use Rattle.model.specs.declared.ConditionalComparison.{ConditionalComparison}
 use Rattle.model.specs.declared.DvOp.{DvOp}
-use Rattle.model.specs.declared.Priority.{Priority}
+use Rattle.model.specs.Options.{Priority}
 use Rattle.grammar.specs.Gram.{Gram, Exactly}
 use Rattle.grammar.specs.Parts.{space, comma, line_feed, bytes, word, both, choice, read_as, either}
 use Rattle.grammar.specs.Numbers.{digit_value, is_hex, decimal, hex, pairs}
@@ -292,8 +293,8 @@ priority_back (inl x) = refl
 priority_back (inr n) = refl
 
 priority_to : (p : Priority) → to_priority (of_priority p) ≡ p
-priority_to Priority.Missing = refl
-priority_to (Priority.Written n) = refl
+priority_to None = refl
+priority_to (Some n) = refl
 
 minus : bytes "-" ≡ 45 ∷ []
 unfolding bytes

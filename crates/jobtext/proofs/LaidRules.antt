@@ -1,5 +1,6 @@
 -- The cells and rules of a text as they are lent, computed on the definition: each kind of value and of rule, the two absolute axes of a
 -- reference apart, and the names of three rules, one after the other in the pool. Assumes nothing.
+use Rattle.std.specs.Prelude.{Some, None}
 use Prim.Native.Nat.{ℕ}
 use Prim.Native.String.{String}
 use mathlib.Core.Path.{◌≡◌, refl}
@@ -10,10 +11,9 @@ use Rattle.model.specs.declared.CfRule.{CfRule}
 use Rattle.model.specs.declared.ConditionalComparison.{ConditionalComparison}
 use Rattle.model.specs.declared.ConditionalOperand.{ConditionalOperand}
 use Rattle.model.specs.declared.DvOp.{DvOp}
-use Rattle.model.specs.declared.Priority.{Priority}
 use Rattle.model.specs.declared.Rgb.{Rgb}
 use Rattle.model.specs.declared.Rule.{Rule}
-use Rattle.model.specs.declared.SheetName.{SheetName}
+use Rattle.model.specs.Options.{SheetName}
 use Rattle.model.specs.Job.{rules_of}
 use Rattle.model.proofs.Computing.{jobs}
 use Rattle.grammar.specs.Parts.{bytes}
@@ -80,7 +80,7 @@ refer sheet row col row_absolute col_absolute =
     (record { sheet = sheet; row = row; col = col; row_absolute = row_absolute; col_absolute = col_absolute })
 
 abbrev named : ℕ → ℕ → SheetName
-named at len = SheetName.Named (record { at = at; len = len })
+named at len = Some (record { at = at; len = len })
 
 -- the first rule names `D` and `EF`, the second nothing and `G`, the last `H` and nothing
 abbrev names_text : List ℕ
@@ -96,7 +96,7 @@ abbrev line : Kind → RuleLine
 line kind =
     record {
       range = record { top = 0; left = 0; bottom = 0; right = 0 };
-      priority = Priority.Missing;
+      priority = None;
       stop = false;
       imported = false;
       kind = kind;
@@ -129,9 +129,9 @@ pool = refl
 
 names : kinds_of (rules_of (laid names_job))
     ≡ CfRule.CellIs DvOp.Between (refer (named 3 1) 1 2 true false) (refer (named 4 2) 3 4 false true) black
-    ∷ CfRule.Expression ConditionalComparison.Less (refer SheetName.This 0 0 true false) (refer (named 6 1) 5 6 true true) black
+    ∷ CfRule.Expression ConditionalComparison.Less (refer None 0 0 true false) (refer (named 6 1) 5 6 true true) black
     ∷ CfRule.DataBar black
-    ∷ CfRule.Expression ConditionalComparison.LessOrEqual (refer (named 7 1) 7 8 false false) (refer SheetName.This 0 0 false true)
+    ∷ CfRule.Expression ConditionalComparison.LessOrEqual (refer (named 7 1) 7 8 false false) (refer None 0 0 false true)
     black
     ∷ []
 unfolding laying jobs

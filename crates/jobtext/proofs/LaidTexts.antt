@@ -1,5 +1,6 @@
 -- Jobs as they are lent, and what whole texts come to, computed on the definition: where the texts sit in the pool, and the
 -- worked text of document 01 at limits 100, 11 and 10, whose answers are the paper's. Assumes nothing.
+use Rattle.std.specs.Prelude.{Some}
 use Prim.Native.Nat.{ℕ}
 use mathlib.Core.Path.{◌≡◌, refl}
 use mathlib.Core.Bool.{Bool, true, false}
@@ -7,8 +8,6 @@ use mathlib.Core.List.{List, [], ◌∷◌}
 use Rattle.model.specs.declared.CfRule.{CfRule}
 use Rattle.model.specs.declared.ConditionalOperand.{ConditionalOperand}
 use Rattle.model.specs.declared.DvOp.{DvOp}
-use Rattle.model.specs.declared.Priority.{Priority}
-use Rattle.model.specs.declared.SheetName.{SheetName}
 use Rattle.model.specs.Run.{Mark, RegionState}
 use Rattle.model.specs.Sheet.{CellColumns}
 use Rattle.model.specs.Answer.{Result, answer, refusal, refused}
@@ -73,7 +72,7 @@ abbrev named : ℕ → ℕ → ℕ → Bool → ConditionalOperand
 named at row col absolute =
     ConditionalOperand.Reference
     (record {
-      sheet = SheetName.Named (record { at = at; len = 1 });
+      sheet = Some (record { at = at; len = 1 });
       row = row;
       col = col;
       row_absolute = absolute;
@@ -83,7 +82,7 @@ named at row col absolute =
 rules : on_job rules_of [] (read texts_text)
     ≡ record {
       range = record { top = 1; left = 2; bottom = 3; right = 4 };
-      priority = Priority.Written 5;
+      priority = Some 5;
       stop = false;
       imported = true;
       kind = CfRule.CellIs DvOp.NotBetween (named 5 1 2 false) (named 6 3 4 true) (record { red = 0; green = 0; blue = 255 });

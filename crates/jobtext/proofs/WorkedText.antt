@@ -1,12 +1,12 @@
 -- The worked text of document 01, computed on the definition: the job that it says, its text again, and the job as it is lent.
 -- Assumes nothing.
+use Rattle.std.specs.Prelude.{Some, None}
 use Prim.Native.Nat.{ℕ}
 use Prim.Native.String.{String}
 use mathlib.Core.Path.{◌≡◌, refl}
 use mathlib.Core.Bool.{true, false}
 use mathlib.Core.List.{List, [], ◌∷◌, ◌++◌}
 use Rattle.model.specs.declared.CellCoordinate.{CellCoordinate}
-use Rattle.model.specs.declared.Priority.{Priority}
 use Rattle.model.specs.declared.Range.{Range}
 use Rattle.grammar.specs.Parts.{bytes}
 use Rattle.jobtext.specs.Written.{Value, CellLine, Kind, JobText}
@@ -60,14 +60,14 @@ worked =
       rules =
           record {
             range = up_to2;
-            priority = Priority.Missing;
+            priority = None;
             stop = false;
             imported = false;
             kind = Kind.bar (record { red = 0; green = 255; blue = 0 });
           }
           ∷ record {
             range = up_to2;
-            priority = Priority.Written 0;
+            priority = Some 0;
             stop = true;
             imported = false;
             kind = Kind.mean false (record { red = 255; green = 0; blue = 0 });

@@ -1,12 +1,12 @@
 -- The fields of the job text, each with the byte that ends it (document 01, 'Job and report text'). Assumes nothing.
-use Rattle.std.specs.Prelude.{ℕ, ◌+◌, ◌%◌, ◌⊎◌, Bool, cond, List, leb, eqb}
+use Rattle.std.specs.Prelude.{ℕ, ◌+◌, ◌%◌, ◌⊎◌, Bool, cond, List, leb, eqb, Some, None}
 use Rattle.std.proofs.Common.{inl, inr}
 use Rattle.std.proofs.Math.Option.{Option, none, some}
 use Rattle.std.specs.Float.{binary64}
 use Rattle.std.specs.Float.Ieee.{of_bits}
 use Rattle.model.specs.declared.ConditionalComparison.{ConditionalComparison}
 use Rattle.model.specs.declared.DvOp.{DvOp}
-use Rattle.model.specs.declared.Priority.{Priority}
+use Rattle.model.specs.Options.{Priority}
 use Rattle.model.specs.declared.Rgb.{Rgb}
 use Rattle.model.specs.Readings.{finite}
 use Rattle.grammar.specs.Gram.{Gram}
@@ -185,12 +185,12 @@ unfoldable pub colour : List ℕ → Gram Rgb
 colour end = ended (read_as to_colour of_colour (both (hex 2) (both (hex 2) (hex 2)))) end
 
 abbrev pub to_priority : Unit {0} ⊎ ℕ → Priority
-to_priority (inl x) = Priority.Missing
-to_priority (inr n) = Priority.Written n
+to_priority (inl x) = None
+to_priority (inr n) = Some n
 
 abbrev pub of_priority : Priority → Unit {0} ⊎ ℕ
-of_priority Priority.Missing = inl tt
-of_priority (Priority.Written n) = inr n
+of_priority None = inl tt
+of_priority (Some n) = inr n
 
 unfoldable pub priority : Gram Priority
 priority = read_as to_priority of_priority (choice (bytes "-") (word (bytes " ")) (decimal 4_294_967_295 space))

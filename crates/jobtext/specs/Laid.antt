@@ -1,6 +1,6 @@
 -- The job that a job text stands for, as it is lent. The pool holds the texts one after the other, in the order of the text:
 -- the sheet's name, the texts of the cells, the names of the rules' references. Assumes nothing.
-use Rattle.std.specs.Prelude.{ℕ, ◌+◌, ◌-◌, Bool, cond, List, [], ◌∷◌, ◌++◌, map, length, replicate}
+use Rattle.std.specs.Prelude.{ℕ, ◌+◌, ◌-◌, Bool, cond, List, [], ◌∷◌, ◌++◌, map, length, replicate, Some, None}
 use Rattle.std.proofs.Math.Option.{Option, none, some}
 use Rattle.std.specs.Float.{binary64}
 use Rattle.std.specs.Float.Ieee.{of_bits}
@@ -8,10 +8,9 @@ use Rattle.model.specs.declared.A1Reference.{A1Reference}
 use Rattle.model.specs.declared.CellCoordinate.{CellCoordinate}
 use Rattle.model.specs.declared.CfRule.{CfRule}
 use Rattle.model.specs.declared.ConditionalOperand.{ConditionalOperand}
-use Rattle.model.specs.declared.Priority.{Priority}
 use Rattle.model.specs.declared.Rule.{Rule}
 use Rattle.model.specs.declared.Rules.{Rules}
-use Rattle.model.specs.declared.SheetName.{SheetName}
+use Rattle.model.specs.Options.{SheetName}
 use Rattle.model.specs.declared.Span.{Span}
 use Rattle.model.specs.Sheet.{CellColumns, max_rules}
 use Rattle.model.specs.Job.{Job}
@@ -86,8 +85,8 @@ name_bytes none = []
 name_bytes (some bs) = bs
 
 unfoldable pub name_at : ℕ → Option (List ℕ) → SheetName
-name_at u none = SheetName.This
-name_at u (some bs) = SheetName.Named (span_at u bs)
+name_at u none = None
+name_at u (some bs) = Some (span_at u bs)
 
 unfoldable pub reference_at : ℕ → Reference → A1Reference
 reference_at u r =
@@ -149,7 +148,7 @@ abbrev pub blank_rule : Rule
 blank_rule =
     record {
       range = record { top = 0; left = 0; bottom = 0; right = 0 };
-      priority = Priority.Missing;
+      priority = None;
       stop = Bool.false;
       imported = Bool.false;
       kind = CfRule.DataBar (record { red = 0; green = 0; blue = 0 });

@@ -3,7 +3,7 @@ use Rattle.std.specs.Prelude.{ℕ, ◌⊎◌, Bool, true, false}
 use Rattle.std.proofs.Common.{inl, inr}
 use Rattle.model.specs.declared.ConditionalComparison.{ConditionalComparison}
 use Rattle.model.specs.declared.DvOp.{DvOp}
-use Rattle.model.specs.declared.Priority.{Priority}
+use Rattle.model.specs.Options.{Priority}
 use Rattle.model.specs.declared.Rgb.{Rgb}
 use Rattle.model.specs.Comparison.{uses_second}
 use Rattle.grammar.specs.Gram.{Gram}

@@ -1,6 +1,6 @@
 -- What a lent job says, as a job text would: its texts and names as their bytes, wherever they sit in the pool, and its numbers as their
 -- bits. An operand that is not finite or not used says what one says that could not be read. Assumes nothing.
-use Rattle.std.specs.Prelude.{ℕ, zero, suc, ◌≡◌, cond, List, [], ◌∷◌, map, eqb, Float, get_or}
+use Rattle.std.specs.Prelude.{ℕ, zero, suc, ◌≡◌, cond, List, [], ◌∷◌, map, eqb, Float, get_or, Some, None}
 use Rattle.std.proofs.Math.Option.{Option, none, some}
 use Rattle.std.specs.Float.{binary64}
 use Rattle.std.specs.Float.Ieee.{of_bits, to_bits}
@@ -9,7 +9,7 @@ use Rattle.model.specs.declared.CellValue.{CellValue}
 use Rattle.model.specs.declared.CfRule.{CfRule}
 use Rattle.model.specs.declared.ConditionalOperand.{ConditionalOperand}
 use Rattle.model.specs.declared.Rule.{Rule}
-use Rattle.model.specs.declared.SheetName.{SheetName}
+use Rattle.model.specs.Options.{SheetName}
 use Rattle.model.specs.declared.Span.{Span}
 use Rattle.model.specs.Comparison.{uses_second}
 use Rattle.model.specs.Readings.{finite}
@@ -59,8 +59,8 @@ module _ (pool : List ℕ) where
   -- ---- rules
 
   unfoldable pub name_said : SheetName → Option (List ℕ)
-  name_said SheetName.This = none
-  name_said (SheetName.Named span) = some (text_at pool span)
+  name_said None = none
+  name_said (Some span) = some (text_at pool span)
 
   unfoldable pub reference_said : A1Reference → Reference
   reference_said r =

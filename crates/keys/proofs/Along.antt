@@ -1,5 +1,6 @@
 -- Codes along an order: a key that comes next has the code of the one before it, if they are the same, and else its own index plus one.
 -- Where each key then has a code, the codes are the names. Assumes nothing.
+use Rattle.std.specs.Prelude.{None}
 use Prim.Native.Nat.{ℕ, zero, suc, ◌-◌, ◌≤◌, ◌<◌}
 use mathlib.Core.Path.{◌≡◌, refl, sym, ap, ◌∙◌}
 use mathlib.Core.Bool.{Bool, true, false, cond}
@@ -10,7 +11,7 @@ use lib.Dec.{eqb, ltb}
 use lib.ListN.{length, get_or, set, replicate, length-append, length-map, length-replicate, length-set}
 use lib.Seq.{get_or-set_same, get_or-set_other, ext_get_or}
 use borrow.Author.Tests.{eqb-true, eqb-false, ltb-true, eq-eqb, ne_eqb, lt-ltb, le-ltb}
-use Rattle.model.specs.declared.ConditionalValueKey.{ConditionalValueKey as Key}
+use Rattle.model.specs.Options.{Key}
 use Rattle.model.specs.Readings.{same_key, has_key}
 use Rattle.keys.specs.Names.{first_same, name_of, names_of}
 use Rattle.keys.specs.Held.{HeldBy}
@@ -31,7 +32,7 @@ stored xs i x j y h e = at (eqb j i) refl
     at false q = inr (sym (get_or-set_other xs i j x 0 (eqb-false j i q)) ∙ e)
 
 abbrev pub key : List Key → ℕ → Key
-key ks i = get_or ks i Key.Nothing
+key ks i = get_or ks i None
 
 abbrev rank : List ℕ → List Key → ℕ → List ℕ
 rank pool ks i = rank_of pool (key ks i)
@@ -242,4 +243,4 @@ module _ {pool tags words ats lens : List ℕ} {ks : List Key} (held : HeldBy po
   unfolding has_key
   codes_named =
       ext_get_or 0 codes (names_of pool ks) (v.sized ∙ sym names_sized)
-      (λ i h. coded_name i ∙ sym (padded_at (name_of pool ks) (name_none pool ks Key.Nothing refl) ks i))
+      (λ i h. coded_name i ∙ sym (padded_at (name_of pool ks) (name_none pool ks None refl) ks i))

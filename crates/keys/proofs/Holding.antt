@@ -1,4 +1,5 @@
 -- Columns filled from the front: the tags and the words of the keys, and their names. Assumes nothing.
+use Rattle.std.specs.Prelude.{Some, None}
 use Prim.Native.Nat.{ℕ, suc, ◌+◌, ◌-◌, ◌≤◌, ◌<◌}
 use mathlib.Core.Path.{◌≡◌, refl, sym, ap, ◌∙◌}
 use mathlib.Core.List.{List, ◌∷◌, ◌++◌, map, append_assoc}
@@ -6,7 +7,8 @@ use native.Mathlib.Numerals.{add-one}
 use native.Mathlib.Omega.{arith}
 use lib.ListN.{length, get_or, take, set, replicate, length-map}
 use lib.Seq.{take-suc, take_all, set_at, length-take-le}
-use Rattle.model.specs.declared.ConditionalValueKey.{ConditionalValueKey as Key}
+use Rattle.model.specs.Options.{Key}
+use Rattle.model.specs.declared.ConditionalValueKey.{ConditionalValueKey}
 use Rattle.model.specs.declared.Span.{Span}
 use Rattle.model.specs.Readings.{has_key}
 use Rattle.keys.specs.Names.{name_of, padded, names_of}
@@ -45,7 +47,7 @@ module _ {pool : List ℕ} {ks : List Key} where
   holding_begun t w = record { tagged = rw t filled_begun; worded = rw w filled_begun; within = omega arith }
 
   module _ {tags words : List ℕ} {i : ℕ} (v : Holding pool ks tags words i) where
-    pub holding_more : {k : Key} {t w : ℕ} → i < length ks → i < 1024 → k ≡ get_or ks i Key.Nothing → t ≡ tag_of k → w ≡ word_of pool k
+    pub holding_more : {k : Key} {t w : ℕ} → i < length ks → i < 1024 → k ≡ get_or ks i None → t ≡ tag_of k → w ≡ word_of pool k
         → Holding pool ks (set tags i t) (set words i w) (i + 1)
     unfolding tag_of word_of
     holding_more h b e t w =
@@ -66,7 +68,7 @@ module _ {pool : List ℕ} {ks : List Key} where
       words_ended = filled_ended v.worded (rw length-map all)
 
       pub holding_held : {ats lens : List ℕ}
-          → ((j : ℕ) → j < length ks → (t : Span) → get_or ks j Key.Nothing ≡ Key.Text t → t ≡ span_at ats lens j)
+          → ((j : ℕ) → j < length ks → (t : Span) → get_or ks j None ≡ Some (ConditionalValueKey.Text t) → t ≡ span_at ats lens j)
           → HeldBy pool tags words ats lens ks
       holding_held s = record { tagged = tags_ended; worded = words_ended; spanned = s }
 
@@ -81,13 +83,13 @@ module _ {pool : List ℕ} {ks : List Key} where
   named_begun = record { filled = filled_begun; within = omega arith }
 
   module _ {names : List ℕ} {i : ℕ} (v : Named pool ks names i) where
-    pub named_more : {x : ℕ} → i < length ks → i < 1024 → x ≡ name_of pool ks (get_or ks i Key.Nothing) → Named pool ks (set names i x) (i + 1)
+    pub named_more : {x : ℕ} → i < length ks → i < 1024 → x ≡ name_of pool ks (get_or ks i None) → Named pool ks (set names i x) (i + 1)
     unfolding has_key
     named_more h b e =
         record {
           filled =
               filled_more v.filled (rw length-map h) b
-              (e ∙ sym (mapped_at (name_of pool ks) (name_none pool ks Key.Nothing refl) ks i));
+              (e ∙ sym (mapped_at (name_of pool ks) (name_none pool ks None refl) ks i));
           within = omega arith;
         }
 

@@ -1,4 +1,5 @@
 -- Names: two keys have one name just when they are the same. Assumes nothing.
+use Rattle.std.specs.Prelude.{Some, None}
 use Prim.Native.Nat.{ℕ, zero, suc, ◌-◌, ◌≤◌, ◌<◌}
 use mathlib.Core.Path.{◌≡◌, refl, sym, ap, ◌∙◌}
 use mathlib.Core.Bool.{Bool, true, false, cond}
@@ -7,7 +8,8 @@ use native.Mathlib.Omega.{arith}
 use lib.Dec.{eqb, eqb-zero-suc}
 use lib.ListN.{length, get_or, replicate, get_or-map}
 use borrow.Author.Tests.{eq-eqb, ne_eqb}
-use Rattle.model.specs.declared.ConditionalValueKey.{ConditionalValueKey as Key}
+use Rattle.model.specs.Options.{Key}
+use Rattle.model.specs.declared.ConditionalValueKey.{ConditionalValueKey}
 use Rattle.model.specs.Readings.{same_key, has_key}
 use Rattle.keys.specs.Names.{first_same, name_of, padded}
 use Rattle.keys.proofs.SameKeys.{differ, no_key_differs, key_swap, key_itself, key_joined}
@@ -25,16 +27,16 @@ zeros_after (x ∷ xs) m zero = refl
 zeros_after (x ∷ xs) m (suc i) = zeros_after xs m i
 
 -- a number for each key, 0 for none
-module _ (f : Key → ℕ) (none : f Key.Nothing ≡ 0) (ks : List Key) where
-  pub mapped_at : (i : ℕ) → get_or (map f ks) i 0 ≡ f (get_or ks i Key.Nothing)
-  mapped_at i = rw none at (get_or-map f ks i Key.Nothing)
+module _ (f : Key → ℕ) (none : f None ≡ 0) (ks : List Key) where
+  pub mapped_at : (i : ℕ) → get_or (map f ks) i 0 ≡ f (get_or ks i None)
+  mapped_at i = rw none at (get_or-map f ks i None)
 
-  pub padded_at : (i : ℕ) → get_or (padded (map f ks)) i 0 ≡ f (get_or ks i Key.Nothing)
+  pub padded_at : (i : ℕ) → get_or (padded (map f ks)) i 0 ≡ f (get_or ks i None)
   padded_at i = zeros_after (map f ks) (1024 - length (map f ks)) i ∙ mapped_at i
 
 -- ---- the first of the same keys
 
-pub keyed_within : (ks : List Key) (i : ℕ) → has_key (get_or ks i Key.Nothing) ≡ true → i < length ks
+pub keyed_within : (ks : List Key) (i : ℕ) → has_key (get_or ks i None) ≡ true → i < length ks
 unfolding has_key
 keyed_within [] i h = differ h
 keyed_within (k ∷ ks) zero h = omega arith
@@ -66,28 +68,28 @@ module _ (pool : List ℕ) where
   here_or_later false x i h = omega arith
 
   -- no key that is the same stands before the first
-  pub first_below : (k : Key) (ks : List Key) (i : ℕ) → same_key pool (get_or ks i Key.Nothing) k ≡ true → first_same pool k ks ≤ i
+  pub first_below : (k : Key) (ks : List Key) (i : ℕ) → same_key pool (get_or ks i None) k ≡ true → first_same pool k ks ≤ i
   unfolding first_same same_key
   first_below k [] i h = differ h
   first_below k (m ∷ ks) zero h = rw h (omega arith)
   first_below k (m ∷ ks) (suc i) h = here_or_later (same_key pool m k) (first_same pool k ks) i (first_below k ks i h)
 
   same_or_later : (k m : Key) (ks : List Key) (same : Bool) → same_key pool m k ≡ same
-      → (first_same pool k ks < length ks → same_key pool (get_or ks (first_same pool k ks) Key.Nothing) k ≡ true)
+      → (first_same pool k ks < length ks → same_key pool (get_or ks (first_same pool k ks) None) k ≡ true)
       → cond same 0 (suc (first_same pool k ks)) < suc (length ks)
-      → same_key pool (get_or (m ∷ ks) (cond same 0 (suc (first_same pool k ks))) Key.Nothing) k ≡ true
+      → same_key pool (get_or (m ∷ ks) (cond same 0 (suc (first_same pool k ks))) None) k ≡ true
   same_or_later k m ks true e later h = e
   same_or_later k m ks false e later h = later (omega arith)
 
   -- the first is the same
   pub first_same_lem : (k : Key) (ks : List Key) → first_same pool k ks < length ks
-      → same_key pool (get_or ks (first_same pool k ks) Key.Nothing) k ≡ true
+      → same_key pool (get_or ks (first_same pool k ks) None) k ≡ true
   unfolding first_same
   first_same_lem k [] h = absurd (omega arith)
   first_same_lem k (m ∷ ks) h = same_or_later k m ks (same_key pool m k) refl (first_same_lem k ks) h
 
-  pub first_within : (ks : List Key) (i : ℕ) → has_key (get_or ks i Key.Nothing) ≡ true → first_same pool (get_or ks i Key.Nothing) ks ≤ i
-  first_within ks i e = first_below (get_or ks i Key.Nothing) ks i (key_itself pool (get_or ks i Key.Nothing) e)
+  pub first_within : (ks : List Key) (i : ℕ) → has_key (get_or ks i None) ≡ true → first_same pool (get_or ks i None) ks ≤ i
+  first_within ks i e = first_below (get_or ks i None) ks i (key_itself pool (get_or ks i None) e)
 
   -- ---- one name
 
@@ -99,10 +101,10 @@ module _ (pool : List ℕ) where
 
     name_alike : (l : Key) → eqb (name_of pool ks l) (name_of pool ks k) ≡ same_key pool k l
     unfolding name_of has_key
-    name_alike (Key.Number a) = rw keyed (keyed_alike (Key.Number a) _ refl)
-    name_alike (Key.Text t) = rw keyed (keyed_alike (Key.Text t) _ refl)
-    name_alike (Key.Bool b) = rw keyed (keyed_alike (Key.Bool b) _ refl)
-    name_alike Key.Nothing = rw (keyed, no_key_differs pool k) (eqb-zero-suc (first_same pool k ks))
+    name_alike (Some (ConditionalValueKey.Number a)) = rw keyed (keyed_alike (Some (ConditionalValueKey.Number a)) _ refl)
+    name_alike (Some (ConditionalValueKey.Text t)) = rw keyed (keyed_alike (Some (ConditionalValueKey.Text t)) _ refl)
+    name_alike (Some (ConditionalValueKey.Bool b)) = rw keyed (keyed_alike (Some (ConditionalValueKey.Bool b)) _ refl)
+    name_alike None = rw (keyed, no_key_differs pool k) (eqb-zero-suc (first_same pool k ks))
 
   pub name_keyed : (ks : List Key) (k : Key) → has_key k ≡ true → name_of pool ks k ≡ suc (first_same pool k ks)
   unfolding name_of
@@ -112,10 +114,10 @@ module _ (pool : List ℕ) where
   unfolding name_of
   name_none ks k h = rw h
 
-  keyed_first : (ks : List Key) (i : ℕ) → has_key (get_or ks i Key.Nothing) ≡ true → first_same pool (get_or ks i Key.Nothing) ks < length ks
+  keyed_first : (ks : List Key) (i : ℕ) → has_key (get_or ks i None) ≡ true → first_same pool (get_or ks i None) ks < length ks
   keyed_first ks i h = omega (arith, keyed_within ks i h, first_within ks i h)
 
   -- a key has the name of the key at an index just when it is the same
-  pub named_alike : (ks : List Key) (i : ℕ) → has_key (get_or ks i Key.Nothing) ≡ true → (l : Key)
-      → eqb (name_of pool ks l) (name_of pool ks (get_or ks i Key.Nothing)) ≡ same_key pool (get_or ks i Key.Nothing) l
-  named_alike ks i h l = name_alike ks (get_or ks i Key.Nothing) h (keyed_first ks i h) l
+  pub named_alike : (ks : List Key) (i : ℕ) → has_key (get_or ks i None) ≡ true → (l : Key)
+      → eqb (name_of pool ks l) (name_of pool ks (get_or ks i None)) ≡ same_key pool (get_or ks i None) l
+  named_alike ks i h l = name_alike ks (get_or ks i None) h (keyed_first ks i h) l

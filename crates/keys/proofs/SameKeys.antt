@@ -1,4 +1,5 @@
 -- Keys that are the same: each is the same as itself, and two that are the same are the same as the same keys. Assumes nothing.
+use Rattle.std.specs.Prelude.{Some, None}
 use Prim.Native.Nat.{ℕ}
 use mathlib.Core.Path.{◌≡◌, refl, sym, ap, ◌∙◌}
 use mathlib.Core.Bool.{Bool, true, false, ◌&&◌, beq}
@@ -6,7 +7,8 @@ use mathlib.Core.List.{List, [], ◌∷◌, map}
 use native.Mathlib.Omega.{arith}
 use lib.Dec.{eqb}
 use borrow.Author.Tests.{eqb-true, eq-eqb}
-use Rattle.model.specs.declared.ConditionalValueKey.{ConditionalValueKey as Key}
+use Rattle.model.specs.Options.{Key}
+use Rattle.model.specs.declared.ConditionalValueKey.{ConditionalValueKey}
 use Rattle.model.specs.declared.Span.{Span}
 use Rattle.model.specs.Sheet.{text_at}
 use Rattle.model.specs.Readings.{lower, same_bytes, same_letters, same_key, has_key}
@@ -61,28 +63,28 @@ beq_equal false false h = refl
 
 module _ (pool : List ℕ) where
   text_swap : (s t : Span) → same_letters (text_at pool s) (text_at pool t) ≡ true → (m : Key)
-      → same_key pool m (Key.Text s) ≡ same_key pool m (Key.Text t)
+      → same_key pool m (Some (ConditionalValueKey.Text s)) ≡ same_key pool m (Some (ConditionalValueKey.Text t))
   unfolding same_key same_letters
-  text_swap s t h (Key.Number a) = refl
-  text_swap s t h (Key.Text u) = ap (same_bytes (map lower (text_at pool u))) (letters_equal (text_at pool s) (text_at pool t) h)
-  text_swap s t h (Key.Bool b) = refl
-  text_swap s t h Key.Nothing = refl
+  text_swap s t h (Some (ConditionalValueKey.Number a)) = refl
+  text_swap s t h (Some (ConditionalValueKey.Text u)) = ap (same_bytes (map lower (text_at pool u))) (letters_equal (text_at pool s) (text_at pool t) h)
+  text_swap s t h (Some (ConditionalValueKey.Bool b)) = refl
+  text_swap s t h None = refl
 
   pub key_swap : (k l m : Key) → same_key pool k l ≡ true → same_key pool m k ≡ same_key pool m l
   unfolding same_key
-  key_swap (Key.Number a) (Key.Number b) m h = ap (λ (n : ℕ). same_key pool m (Key.Number n)) (eqb-true a b h)
-  key_swap (Key.Number a) (Key.Text t) m h = differ h
-  key_swap (Key.Number a) (Key.Bool b) m h = differ h
-  key_swap (Key.Number a) Key.Nothing m h = differ h
-  key_swap (Key.Text s) (Key.Number b) m h = differ h
-  key_swap (Key.Text s) (Key.Text t) m h = text_swap s t h m
-  key_swap (Key.Text s) (Key.Bool b) m h = differ h
-  key_swap (Key.Text s) Key.Nothing m h = differ h
-  key_swap (Key.Bool a) (Key.Number b) m h = differ h
-  key_swap (Key.Bool a) (Key.Text t) m h = differ h
-  key_swap (Key.Bool a) (Key.Bool b) m h = ap (λ (c : Bool). same_key pool m (Key.Bool c)) (beq_equal a b h)
-  key_swap (Key.Bool a) Key.Nothing m h = differ h
-  key_swap Key.Nothing l m h = differ h
+  key_swap (Some (ConditionalValueKey.Number a)) (Some (ConditionalValueKey.Number b)) m h = ap (λ (n : ℕ). same_key pool m (Some (ConditionalValueKey.Number n))) (eqb-true a b h)
+  key_swap (Some (ConditionalValueKey.Number a)) (Some (ConditionalValueKey.Text t)) m h = differ h
+  key_swap (Some (ConditionalValueKey.Number a)) (Some (ConditionalValueKey.Bool b)) m h = differ h
+  key_swap (Some (ConditionalValueKey.Number a)) None m h = differ h
+  key_swap (Some (ConditionalValueKey.Text s)) (Some (ConditionalValueKey.Number b)) m h = differ h
+  key_swap (Some (ConditionalValueKey.Text s)) (Some (ConditionalValueKey.Text t)) m h = text_swap s t h m
+  key_swap (Some (ConditionalValueKey.Text s)) (Some (ConditionalValueKey.Bool b)) m h = differ h
+  key_swap (Some (ConditionalValueKey.Text s)) None m h = differ h
+  key_swap (Some (ConditionalValueKey.Bool a)) (Some (ConditionalValueKey.Number b)) m h = differ h
+  key_swap (Some (ConditionalValueKey.Bool a)) (Some (ConditionalValueKey.Text t)) m h = differ h
+  key_swap (Some (ConditionalValueKey.Bool a)) (Some (ConditionalValueKey.Bool b)) m h = ap (λ (c : Bool). same_key pool m (Some (ConditionalValueKey.Bool c))) (beq_equal a b h)
+  key_swap (Some (ConditionalValueKey.Bool a)) None m h = differ h
+  key_swap None l m h = differ h
 
   beq_same : (a : Bool) → beq a a ≡ true
   beq_same true = refl
@@ -90,27 +92,27 @@ module _ (pool : List ℕ) where
 
   pub key_itself : (k : Key) → has_key k ≡ true → same_key pool k k ≡ true
   unfolding same_key has_key
-  key_itself (Key.Number a) h = eq-eqb a a refl
-  key_itself (Key.Text t) h = letters_same (text_at pool t)
-  key_itself (Key.Bool b) h = beq_same b
-  key_itself Key.Nothing h = differ h
+  key_itself (Some (ConditionalValueKey.Number a)) h = eq-eqb a a refl
+  key_itself (Some (ConditionalValueKey.Text t)) h = letters_same (text_at pool t)
+  key_itself (Some (ConditionalValueKey.Bool b)) h = beq_same b
+  key_itself None h = differ h
 
-  pub no_key_differs : (k : Key) → same_key pool k Key.Nothing ≡ false
+  pub no_key_differs : (k : Key) → same_key pool k None ≡ false
   unfolding same_key
-  no_key_differs (Key.Number a) = refl
-  no_key_differs (Key.Text t) = refl
-  no_key_differs (Key.Bool b) = refl
-  no_key_differs Key.Nothing = refl
+  no_key_differs (Some (ConditionalValueKey.Number a)) = refl
+  no_key_differs (Some (ConditionalValueKey.Text t)) = refl
+  no_key_differs (Some (ConditionalValueKey.Bool b)) = refl
+  no_key_differs None = refl
 
   pub second_keyed : (k l : Key) → same_key pool k l ≡ true → has_key l ≡ true
   unfolding same_key has_key
-  second_keyed k (Key.Number b) h = refl
-  second_keyed k (Key.Text t) h = refl
-  second_keyed k (Key.Bool b) h = refl
-  second_keyed (Key.Number a) Key.Nothing h = h
-  second_keyed (Key.Text t) Key.Nothing h = h
-  second_keyed (Key.Bool b) Key.Nothing h = h
-  second_keyed Key.Nothing Key.Nothing h = h
+  second_keyed k (Some (ConditionalValueKey.Number b)) h = refl
+  second_keyed k (Some (ConditionalValueKey.Text t)) h = refl
+  second_keyed k (Some (ConditionalValueKey.Bool b)) h = refl
+  second_keyed (Some (ConditionalValueKey.Number a)) None h = h
+  second_keyed (Some (ConditionalValueKey.Text t)) None h = h
+  second_keyed (Some (ConditionalValueKey.Bool b)) None h = h
+  second_keyed None None h = h
 
   pub key_turned : (k l : Key) → same_key pool k l ≡ true → same_key pool l k ≡ true
   key_turned k l h = key_swap k l l h ∙ key_itself l (second_keyed k l h)

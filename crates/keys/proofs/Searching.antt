@@ -1,5 +1,6 @@
 -- The loops: the code of what is left of a text from a code on, and the first same key among those from an index on, each come to what
 -- the whole comes to. Assumes nothing.
+use Rattle.std.specs.Prelude.{None}
 use Prim.Native.Nat.{ℕ, suc, ◌+◌, ◌≤◌, ◌<◌}
 use mathlib.Core.Path.{◌≡◌, refl}
 use mathlib.Core.Bool.{Bool, true, false, cond}
@@ -9,7 +10,7 @@ use native.Mathlib.Numerals.{add-one}
 use native.Mathlib.Omega.{arith}
 use lib.ListN.{length, get_or, drop, drop_of_length-le}
 use lib.Seq.{drop-cons}
-use Rattle.model.specs.declared.ConditionalValueKey.{ConditionalValueKey as Key}
+use Rattle.model.specs.Options.{Key}
 use Rattle.model.specs.Readings.{lower, same_key, has_key}
 use Rattle.keys.specs.Names.{first_same}
 use Rattle.keys.specs.Held.{next_code, code_from, code_of}
@@ -44,19 +45,19 @@ module _ {pool : List ℕ} {k : Key} {ks : List Key} where
   key_begun = record { left = zero-add _ }
 
   module _ {j : ℕ} (v : SoughtKey pool k ks j) where
-    here_or_later : {same : Bool} → j < length ks → same_key pool (get_or ks j Key.Nothing) k ≡ same
+    here_or_later : {same : Bool} → j < length ks → same_key pool (get_or ks j None) k ≡ same
         → j + cond same 0 (suc (first_same pool k (drop (j + 1) ks))) ≡ first_same pool k ks
     unfolding first_same
-    here_or_later h e = rw (add-one j) (rw e at (rw (drop-cons ks j Key.Nothing h) at v.left))
+    here_or_later h e = rw (add-one j) (rw e at (rw (drop-cons ks j None h) at v.left))
 
-    pub key_found : j < length ks → same_key pool (get_or ks j Key.Nothing) k ≡ true → j ≡ first_same pool k ks
+    pub key_found : j < length ks → same_key pool (get_or ks j None) k ≡ true → j ≡ first_same pool k ks
     key_found h e = omega (arith, here_or_later h e)
 
-    pub key_passed : j < length ks → same_key pool (get_or ks j Key.Nothing) k ≡ false → SoughtKey pool k ks (j + 1)
+    pub key_passed : j < length ks → same_key pool (get_or ks j None) k ≡ false → SoughtKey pool k ks (j + 1)
     key_passed h e = record { left = omega (arith, here_or_later h e) }
 
     -- the key is the same as itself
-    pub key_ended : (i : ℕ) → j ≡ i → i < length ks → get_or ks i Key.Nothing ≡ k → has_key k ≡ true → i ≡ first_same pool k ks
+    pub key_ended : (i : ℕ) → j ≡ i → i < length ks → get_or ks i None ≡ k → has_key k ≡ true → i ≡ first_same pool k ks
     key_ended i e h own keyed =
-        let same : same_key pool (get_or ks j Key.Nothing) k ≡ true = rw (e, own) (key_itself pool k keyed) in
+        let same : same_key pool (get_or ks j None) k ≡ true = rw (e, own) (key_itself pool k keyed) in
         omega (arith, key_found (omega arith) same)

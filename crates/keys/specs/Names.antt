@@ -1,6 +1,6 @@
 -- Names of keys: each key of the cells has the index of the first that is the same, plus one, for its name. Assumes nothing.
 use Rattle.std.specs.Prelude.{ℕ, zero, suc, ◌-◌, cond, List, [], ◌∷◌, ◌++◌, map, length, replicate}
-use Rattle.model.specs.declared.ConditionalValueKey.{ConditionalValueKey as Key}
+use Rattle.model.specs.Options.{Key}
 use Rattle.model.specs.Sheet.{CellColumns, cell_from}
 use Rattle.model.specs.Readings.{conditional_value_key, same_key, has_key}
 

@@ -2,14 +2,14 @@
 // stand side by side.
 ghost use Rattle.std.specs.Prelude.{ℕ, ◌<◌, ◌≤◌, min, ◌≡◌, true, List, length, replicate};
 ghost use Rattle.cells.specs.Columns.{columns};
-ghost use Rattle.model.specs.declared.ConditionalValueKey.{ConditionalValueKey};
+ghost use Rattle.model.specs.Options.{Key};
 ghost use Rattle.keys.specs.Names.{keys_held, names_of};
-ghost use Rattle.keys.specs.Held.{HeldBy};
+ghost use Rattle.keys.specs.Held.{HeldBy, HeldIn};
 ghost use Rattle.keys.specs.Codes.{code_after, Coded, Covering};
 
 use crate::sort::{comes_before, sorted};
 use crate::table::tabled_codes;
-use crate::{cell_count, name_at, same_held, tag, wide, word};
+use crate::{KeyColumns, cell_count, tag, word};
 use cells::cell_from;
 use readings::key::conditional_value_key;
 
@@ -17,68 +17,46 @@ use readings::key::conditional_value_key;
 
 // The code of the key at i, next along an order after the key at prior, whose code is 0 where there is none yet. It is 0 if i has no key
 // or does not come after prior.
-fn code_after(
-    tags: &[u8],
-    words: &[u64],
-    ats: &[u32],
-    lens: &[u32],
-    pool: &[u8],
-    code: u16,
-    prior: usize,
-    i: usize,
-) -> u16
+fn code_after(keys: KeyColumns<'_>, code: u16, prior: usize, i: usize) -> u16
     requires { i < 1024 }
-    ensures { (ks : List ConditionalValueKey) → HeldBy pool.now tags.now words.now
-        ats.now lens.now ks → result ≡ code_after pool.now ks code prior i }
+    ensures { (ks : List Key) → HeldIn keys.entry ks → result ≡ code_after keys.entry.pool.now ks code prior i }
 {
-    if lent::at_u8(tags, i) == 0 {
+    if keys.tag(i) == 0 {
         return 0;
     }
     if code == 0 {
         return i as u16 + 1;
     }
-    if same_held(tags, words, ats, lens, pool, i, prior) {
+    if keys.same_held(i, prior) {
         if prior < i {
             return code;
         }
         return 0;
     }
-    if comes_before(tags, words, ats, lens, pool, prior, i) {
+    if comes_before(keys, prior, i) {
         return i as u16 + 1;
     }
     0
 }
 
 // Codes of the keys along an order, as far as it is one.
-fn codes_along(
-    tags: &[u8; 1024],
-    words: &[u64; 1024],
-    ats: &[u32],
-    lens: &[u32],
-    pool: &[u8],
-    ids: &[u16; 1024],
-    count: usize,
-) -> [u16; 1024]
-    requires { count ≤ 1024 }
-    ensures { (ks : List ConditionalValueKey) → HeldBy pool.now tags.now words.now
-        ats.now lens.now ks → Coded pool.now ks result }
+fn codes_along(keys: KeyColumns<'_>, order: &[u16]) -> [u16; 1024]
+    ensures { (ks : List Key) → HeldIn keys.entry ks → Coded keys.entry.pool.now ks result }
 {
     let mut codes = [0; 1024];
     let mut code = 0;
     let mut prior = 0;
-    let mut k = 0;
-    while k < count {
-        let i = wide(ids[k]);
+    for id in order {
+        let i = *id as usize;
         if i >= 1024 {
             return codes;
         }
-        code = code_after(tags, words, ats, lens, pool, code, prior, i);
+        code = code_after(keys, code, prior, i);
         if code == 0 {
             return codes;
         }
         codes[i] = code;
         prior = i;
-        k += 1;
     }
     codes
 }
@@ -88,80 +66,47 @@ fn covered(tags: &[u8; 1024], codes: &[u16; 1024], n: usize) -> bool
     requires { n ≤ 1024 }
     ensures { result ≡ true → Covering tags.now codes.now n }
 {
-    let mut i = 0;
-    while i < n {
-        if tags[i] == 0 {
-            i += 1;
-            continue;
-        }
-        if codes[i] == 0 {
+    for i in 0..n {
+        if tags[i] != 0 && codes[i] == 0 {
             return false;
         }
-        i += 1;
     }
     true
 }
 
-fn pairwise(
-    tags: &[u8],
-    words: &[u64],
-    ats: &[u32],
-    lens: &[u32],
-    pool: &[u8],
-    n: usize,
-) -> [u16; 1024]
+fn pairwise(keys: KeyColumns<'_>, n: usize) -> [u16; 1024]
     requires { n ≤ 1024 }
-    ensures { (ks : List ConditionalValueKey) → HeldBy pool.now tags.now words.now
-        ats.now lens.now ks → length ks ≡ n → result ≡ names_of pool.now ks }
+    ensures { (ks : List Key) → HeldIn keys.entry ks → length ks ≡ n → result ≡ names_of keys.entry.pool.now ks }
 {
     let mut codes = [0; 1024];
-    let mut i = 0;
-    while i < n {
-        codes[i] = name_at(tags, words, ats, lens, pool, i);
-        i += 1;
+    for i in 0..n {
+        codes[i] = keys.name_at(i);
     }
     codes
 }
 
-fn sorted_codes(
-    tags: &[u8; 1024],
-    words: &[u64; 1024],
-    ats: &[u32],
-    lens: &[u32],
-    pool: &[u8],
-    n: usize,
-) -> [u16; 1024]
-    ensures { (ks : List ConditionalValueKey) → HeldBy pool.now tags.now words.now
-        ats.now lens.now ks → Coded pool.now ks result }
+fn sorted_codes(keys: KeyColumns<'_>, n: usize) -> [u16; 1024]
+    ensures { (ks : List Key) → HeldIn keys.entry ks → Coded keys.entry.pool.now ks result }
 {
-    let order = sorted(tags, words, ats, lens, pool, n);
-    let ids = order.ids;
-    codes_along(tags, words, ats, lens, pool, &ids, order.count)
+    let order = sorted(keys, n);
+    codes_along(keys, &order.ids[..order.count])
 }
 
 // Where the words give too few places, the table leaves keys without a code: then they are sorted. That the sort sorts is not
 // proved. What comes of it is looked at, and if it did not give each key a code, the keys would be compared by pairs.
-fn code_keys(
-    tags: &[u8; 1024],
-    words: &[u64; 1024],
-    ats: &[u32],
-    lens: &[u32],
-    pool: &[u8],
-    n: usize,
-) -> [u16; 1024]
+fn code_keys(keys: KeyColumns<'_>, n: usize) -> [u16; 1024]
     requires { n ≤ 1024 }
-    ensures { (ks : List ConditionalValueKey) → HeldBy pool.now tags.now words.now
-        ats.now lens.now ks → length ks ≡ n → result ≡ names_of pool.now ks }
+    ensures { (ks : List Key) → HeldIn keys.entry ks → length ks ≡ n → result ≡ names_of keys.entry.pool.now ks }
 {
-    let tabled = tabled_codes(tags, words, ats, lens, pool, n);
-    if covered(tags, &tabled, n) {
+    let tabled = tabled_codes(keys, n);
+    if covered(keys.tags, &tabled, n) {
         return tabled;
     }
-    let sorted = sorted_codes(tags, words, ats, lens, pool, n);
-    if covered(tags, &sorted, n) {
+    let sorted = sorted_codes(keys, n);
+    if covered(keys.tags, &sorted, n) {
         return sorted;
     }
-    pairwise(tags, words, ats, lens, pool, n)
+    pairwise(keys, n)
 }
 
 // ---- of the sheet
@@ -183,13 +128,10 @@ fn hold(
         (keys_held pool.now (columns rows.now cols kinds.now wraps.now nums.now
         ats.now lens.now) 0 (min (length rows.now) 1024)) }
 {
-    let n = cell_count(rows);
-    let mut i = 0;
-    while i < n {
+    for i in 0..cell_count(rows) {
         let key = conditional_value_key(cell_from(kinds, wraps, nums, ats, lens, i), pool);
         tags[i] = tag(key);
         words[i] = word(key, pool);
-        i += 1;
     }
 }
 
@@ -213,5 +155,12 @@ pub fn codes(
     hold(
         rows, kinds, wraps, nums, ats, lens, pool, &mut tags, &mut words,
     );
-    code_keys(&tags, &words, ats, lens, pool, cell_count(rows))
+    let keys = KeyColumns {
+        tags: &tags,
+        words: &words,
+        ats,
+        lens,
+        pool,
+    };
+    code_keys(keys, cell_count(rows))
 }

@@ -1,15 +1,16 @@
 // Codes by a table of places: a key is looked for from the place on that its word gives, past other keys. The first of the keys that are
 // the same takes the free place where the search for it ended, and the others find it there.
-ghost use Rattle.std.specs.Prelude.{◌<◌, ◌≤◌, ◌≡◌, true, List, get_or};
-ghost use Rattle.model.specs.declared.ConditionalValueKey.{ConditionalValueKey};
+ghost use Rattle.std.specs.Prelude.{◌<◌, ◌≤◌, ◌≡◌, true, List, get_or, IfSome};
+ghost use Rattle.model.specs.Options.{Key};
 ghost use Rattle.model.specs.Readings.{has_key};
-ghost use Rattle.keys.specs.Held.{HeldBy};
+ghost use Rattle.keys.specs.Held.{HeldIn};
 ghost use Rattle.keys.specs.Codes.{Coded};
 ghost use Rattle.keys.specs.Places.{mix_of, place_of, Found};
 
-use crate::{same_held, smaller, wide};
+use crate::KeyColumns;
 
 // Each half of the word times an odd number.
+#[tactic(auto, unfolding(crate::specs::Places::mix_of))]
 fn mix(word: u64) -> u64
     ensures { result ≡ mix_of word }
 {
@@ -29,80 +30,56 @@ fn place(word: u64) -> usize
 // The place from start on where the key at i is or may be put, if there is one before end. A search that meets another key with the same
 // word ends there: texts of one word are not to be read over and over.
 fn find(
-    tags: &[u8],
-    words: &[u64],
-    ats: &[u32],
-    lens: &[u32],
-    pool: &[u8],
+    keys: KeyColumns<'_>,
     places: &[u16; 4128],
     start: usize,
     end: usize,
     i: usize,
-) -> usize
+) -> Option<usize>
     requires { end ≤ 4128 }
-    ensures lower_bound { start ≤ result }
-    ensures found { (ks : List ConditionalValueKey) → HeldBy pool.now tags.now words.now
-        ats.now lens.now ks → has_key (get_or ks i ConditionalValueKey.Nothing) ≡ true → result < end
-        → Found pool.now ks places.now start i result }
+    ensures range { IfSome result (λ p. (start ≤ p) × (p < end)) }
+    ensures found { (ks : List Key) → HeldIn keys.entry ks → has_key (get_or ks i None) ≡ true
+        → IfSome result (λ p. Found keys.entry.pool.now ks places.now start i p) }
 {
-    let word = lent::at_u64(words, i);
-    let mut p = start;
-    while p < end {
-        let code = wide(places[p]);
+    let word = keys.word(i);
+    for p in start..end {
+        let code = places[p] as usize;
         if code == 0 {
-            return p;
+            return Some(p);
         }
-        if same_held(tags, words, ats, lens, pool, i, code - 1) {
-            return p;
+        if keys.same_held(i, code - 1) {
+            return Some(p);
         }
-        if lent::at_u64(words, code - 1) == word {
-            return end;
+        if keys.word(code - 1) == word {
+            return None;
         }
-        p += 1;
     }
-    p
+    None
 }
 
 // Codes of the keys of the first n cells, up to one that finds no place. Past other keys there are at most 31 steps for a key and twice as
 // many for all as there are cells, whatever places the words give.
-pub(crate) fn tabled_codes(
-    tags: &[u8; 1024],
-    words: &[u64; 1024],
-    ats: &[u32],
-    lens: &[u32],
-    pool: &[u8],
-    n: usize,
-) -> [u16; 1024]
+pub(crate) fn tabled_codes(keys: KeyColumns<'_>, n: usize) -> [u16; 1024]
     requires { n ≤ 1024 }
-    ensures { (ks : List ConditionalValueKey) → HeldBy pool.now tags.now words.now
-        ats.now lens.now ks → Coded pool.now ks result }
+    ensures { (ks : List Key) → HeldIn keys.entry ks → Coded keys.entry.pool.now ks result }
 {
     let mut codes = [0; 1024];
     let mut places = [0; 4128];
     let mut left = 2 * n;
-    let mut i = 0;
-    while i < n {
-        if tags[i] == 0 {
-            i += 1;
+    for i in 0..n {
+        if keys.tags[i] == 0 {
             continue;
         }
-        let start = place(words[i]);
-        let end = start + smaller(left, 32);
-        let p = find(tags, words, ats, lens, pool, &places, start, end, i);
-        if p >= end {
+        let start = place(keys.words[i]);
+        let end = start + left.min(32);
+        let Some(p) = find(keys, &places, start, end, i) else {
             return codes;
-        }
+        };
         left -= p - start;
-        let code = places[p];
-        if code == 0 {
-            let own = i as u16 + 1;
-            places[p] = own;
-            codes[i] = own;
-            i += 1;
-            continue;
+        if places[p] == 0 {
+            places[p] = i as u16 + 1;
         }
-        codes[i] = code;
-        i += 1;
+        codes[i] = places[p];
     }
     codes
 }

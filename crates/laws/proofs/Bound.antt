@@ -7,7 +7,6 @@ use mathlib.Core.Bool.{Bool, true, false, cond}
 use mathlib.Core.List.{List, [], ◌∷◌, ◌++◌}
 use lib.ListN.{length, replicate}
 use Rattle.charging.specs.Charge.{Charge, one, size, total}
-use Rattle.charging.specs.Charge as Charge
 use Rattle.model.specs.declared.CellCoordinate.{CellCoordinate}
 use Rattle.model.specs.declared.Range.{Range}
 use Rattle.model.specs.declared.CfRule.{CfRule}

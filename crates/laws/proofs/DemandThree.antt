@@ -1,6 +1,7 @@
 -- Demand 3 of the definition: when a well-formed job is answered, that all its answers are one, and how far its count can rise.
 -- Assumes nothing.
-use Prim.Native.Nat.{ℕ, ◌+◌, ◌-◌, ◌*◌, ◌^◌, ◌≤◌, ◌<◌}
+use Rattle.std.specs.Prelude.{Ok}
+use Prim.Native.Nat.{ℕ, ◌+◌, ◌*◌, ◌^◌, ◌≤◌, ◌<◌}
 use native.Mathlib.Omega.{arith}
 use native.Mathlib.Decide.{dec_le, ℕ_discrete}
 use mathlib.Core.Path.{◌≡◌, subst₂}
@@ -8,7 +9,6 @@ use mathlib.Core.Logic.{◌⊎◌, inl, inr, ⊎_elim}
 use mathlib.Core.Option.{none}
 use lib.ListN.{length}
 use borrow.Author.Tests.{le-leb}
-use Rattle.charging.specs.declared.Charged.{Charged}
 use Rattle.charging.specs.Charge.{counter, spend}
 use Rattle.model.specs.Answer.{answer, answered, settled, limited}
 use Rattle.model.specs.Job.{Job, Lengths, rules_of, cell_count, region_count, sheet_of, run_of}
@@ -32,7 +32,7 @@ module _ (j : Job) where
     answered_whole z = ⊎_elim (λ w. w) (λ r. absurd (refused_unanswered j limit l r z)) (result_is j limit l)
 
     -- accepted charges are none or within the limit
-    within_enough : reached j < 2 ^ 64 → spend limit j.start (run_of j).charges ≡ Charged.Within (counter (reached j))
+    within_enough : reached j < 2 ^ 64 → spend limit j.start (run_of j).charges ≡ Ok (counter (reached j))
         → (reached j ≡ j.start) ⊎ (reached j ≤ limit)
     within_enough fits h =
         elim (dec_le (reached j) limit) [

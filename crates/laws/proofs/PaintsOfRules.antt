@@ -1,6 +1,7 @@
 -- What a rule's marks can be: they have a bar exactly if the rule is one, and a shape of 0, 1 or 2 for a scale of two colours and a bar,
 -- of 0, 1, 2, 3 or 5 for a scale of three colours, of 0 for every other rule. 4, a flat upper half, is none of them: a region's number is
 -- one of the values, so it is at most the greatest, and one above the midpoint leaves the midpoint below the greatest. Assumes nothing.
+use Rattle.std.specs.Prelude.{Some, None}
 use mathlib.Core.Path.{◌≡◌, refl, sym, ap, ◌∙◌, subst}
 use mathlib.Core.Logic.{◌≢◌}
 use mathlib.Core.Bool.{Bool, true, false, cond, not, ◌&&◌, ◌||◌, true≢false, false≢true}
@@ -18,7 +19,7 @@ use Rattle.model.specs.declared.Outcome.{Outcome}
 use Rattle.model.specs.declared.Paint.{Paint}
 use Rattle.model.specs.declared.Plan.{Plan}
 use Rattle.model.specs.declared.Range.{Range}
-use Rattle.model.specs.declared.Reading.{Reading}
+use Rattle.model.specs.Options.{Reading}
 use Rattle.model.specs.declared.Rgb.{Rgb}
 use Rattle.model.specs.declared.Rule.{Rule}
 use Rattle.model.specs.declared.Shape.{Shape}
@@ -48,16 +49,16 @@ same_in_range r a b e = both (eqb a.row b.row) (eqb a.col b.col) refl refl e
     both true false p q e = absurd (false≢true e)
     both false t p q e = absurd (false≢true e)
 
-number_first : (x : Float) (xs : List Float) (c : Reading) → c ≡ Reading.Number x → Mem x (with_number c xs)
+number_first : (x : Float) (xs : List Float) (c : Reading) → c ≡ Some x → Mem x (with_number c xs)
 number_first x xs c e = subst (λ c. Mem x (with_number c xs)) (sym e) mem-cons_self
 
 number_later : (x : Float) (xs : List Float) (c : Reading) → Mem x xs → Mem x (with_number c xs)
-number_later x xs (Reading.Number y) m = mem-cons_of_mem y m
-number_later x xs Reading.Nothing m = m
+number_later x xs (Some y) m = mem-cons_of_mem y m
+number_later x xs None m = m
 
 -- a number in range is one of the values
 pub number_member : (r : Range) (at : CellCoordinate) (x : Float) → in_range r at ≡ true → (cells : List CellAt)
-    → numeric_at cells at ≡ Reading.Number x → Mem x (numbers (cells_in r cells))
+    → numeric_at cells at ≡ Some x → Mem x (numbers (cells_in r cells))
 unfolding numeric_at cell_at cells_in numbers
 number_member r at x h [] e = absurd (let no : ◌≡◌ {A = ℕ} 0 1 = cc in omega arith)
 number_member r at x h (c ∷ cs) e = here (same_coordinate c.at at) refl e (number_member r at x h cs)
@@ -66,8 +67,8 @@ number_member r at x h (c ∷ cs) e = here (same_coordinate c.at at) refl e (num
     later true m = number_later x (numbers (cells_in r cs)) (numeric_cell_value c.cell) m
     later false m = m
 
-    here : (t : Bool) → same_coordinate c.at at ≡ t → numeric_of (cond t (some c.cell) (cell_at cs at)) ≡ Reading.Number x
-        → (numeric_of (cell_at cs at) ≡ Reading.Number x → Mem x (numbers (cells_in r cs)))
+    here : (t : Bool) → same_coordinate c.at at ≡ t → numeric_of (cond t (some c.cell) (cell_at cs at)) ≡ Some x
+        → (numeric_of (cell_at cs at) ≡ Some x → Mem x (numbers (cells_in r cs)))
         → Mem x (numbers (cond (in_range r c.at) (c ∷ cells_in r cs) (cells_in r cs)))
     here true same e below =
         rw (same_in_range r c.at at same ∙ h) (number_first x (numbers (cells_in r cs)) (numeric_cell_value c.cell) e)
@@ -143,23 +144,23 @@ module _ {kind : CfRule} (fills : is_bar kind ≡ false) where
   says_filled_if false imported fill h = passed
 
 module _ {P : Paint → Type 0} where
-  says_on_value : (x : Reading) (say : Float → Outcome) → ((v : Float) → x ≡ Reading.Number v → Says P (say v))
+  says_on_value : (x : Reading) (say : Float → Outcome) → ((v : Float) → x ≡ Some v → Says P (say v))
       → Says P (Rule.on_value x say)
   unfolding Rule.on_value
-  says_on_value (Reading.Number v) say h = h v refl
-  says_on_value Reading.Nothing say h = passed
+  says_on_value (Some v) say h = h v refl
+  says_on_value None say h = passed
 
   says_on_operand : (x : Reading) (say : Float → Outcome) → ((v : Float) → Says P (say v)) → Says P (Rule.on_operand x say)
   unfolding Rule.on_operand
-  says_on_operand (Reading.Number v) say h = h v
-  says_on_operand Reading.Nothing say h = unresolved
+  says_on_operand (Some v) say h = h v
+  says_on_operand None say h = unresolved
 
   says_on_second : (used : Bool) (y : Reading) (say : Reading → Outcome) → ((z : Reading) → Says P (say z))
       → Says P (Rule.on_second used y say)
   unfolding Rule.on_second
-  says_on_second true (Reading.Number v) say h = h (Reading.Number v)
-  says_on_second true Reading.Nothing say h = unresolved
-  says_on_second false y say h = h Reading.Nothing
+  says_on_second true (Some v) say h = h (Some v)
+  says_on_second true None say h = unresolved
+  says_on_second false y say h = h None
 
 -- ---- the marks of each kind of rule
 
@@ -251,8 +252,8 @@ module _ (s : Sheet) (r : Rule) where
   planned_mean below fill (x ∷ xs) = by (average (x ∷ xs))
     where
       by : (mean : Reading) → Planned s r (CfRule.AboveAverage below fill) (Rule.against below fill mean)
-      by (Reading.Number mean) = tested (λ at h. says_on_value _ _ (λ v e. says_filled_if refl _ _ fill refl))
-      by Reading.Nothing = deferred
+      by (Some mean) = tested (λ at h. says_on_value _ _ (λ v e. says_filled_if refl _ _ fill refl))
+      by None = deferred
 
   planned : (kind : CfRule) → Planned s r kind (Rule.plan_of s r.range kind)
   unfolding Rule.plan_of Rule.verdict is_bar

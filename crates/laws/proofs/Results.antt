@@ -1,5 +1,7 @@
 -- Every result is either the whole run, with all its charges and marks accepted, or a refusal with a number other than 0 and
 -- nothing besides. Assumes nothing.
+use Rattle.charging.specs.declared.ChargeError.{ChargeError}
+use Rattle.std.specs.Prelude.{Ok, Err}
 use Prim.Native.Nat.{ℕ, ◌+◌, ◌≤◌, ◌<◌}
 use native.Mathlib.Omega.{arith}
 use mathlib.Core.Path.{◌≡◌, refl, ap, ap₂, ◌∙◌}
@@ -10,7 +12,7 @@ use mathlib.Core.Option.{Option, none, some}
 use lib.Dec.{leb}
 use lib.ListN.{length}
 use borrow.Author.Tests.{leb-true}
-use Rattle.charging.specs.declared.Charged.{Charged}
+use Rattle.charging.specs.Charge.{Charged}
 use Rattle.charging.specs.Charge.{counter, spend, total}
 use Rattle.model.specs.Run.{Run}
 use Rattle.model.specs.Answer.{Summary, Result, refusal, refused, answered, settled, limited}
@@ -22,7 +24,7 @@ use Rattle.laws.proofs.Spending.{spend_count}
 -- the whole run
 pub record Whole (limit start space : ℕ) (r : Run) (x : Result) : Type 0 where
   pub is : x ≡ answered (start + total r.charges) r
-  pub spent : spend limit start r.charges ≡ Charged.Within (counter (start + total r.charges))
+  pub spent : spend limit start r.charges ≡ Ok (counter (start + total r.charges))
   pub fits : length r.marks ≤ space
 
 pub record Refused (x : Result) : Type 0 where
@@ -40,18 +42,18 @@ unfolding limited settled
 limited_is limit start space r = go (spend limit start r.charges) refl
   where
     fitting : (b : Bool) → leb (length r.marks) space ≡ b → (n : ℕ) → n ≡ start + total r.charges
-        → spend limit start r.charges ≡ Charged.Within (counter n)
+        → spend limit start r.charges ≡ Ok (counter n)
         → Whole limit start space r (cond b (answered n r) (refused (refusal 9 0 n (length r.marks))))
         ⊎ Refused (cond b (answered n r) (refused (refusal 9 0 n (length r.marks))))
     fitting true e n same h =
-        let spent = h ∙ ap (λ (k : ℕ). Charged.Within (counter k)) same in
+        let spent = h ∙ ap (λ (k : ℕ). Ok (counter k)) same in
         inl (record { is = ap (λ (k : ℕ). answered k r) same; spent = spent; fits = leb-true _ _ e })
     fitting false e n same h = inr (refused_with 9 0 n (length r.marks) (omega arith))
 
     go : (c : Charged) → spend limit start r.charges ≡ c → Whole limit start space r (settled space r c) ⊎ Refused (settled space r c)
-    go (Charged.Within c) h = fitting (leb (length r.marks) space) refl c.count (spend_count limit start r.charges c h) h
-    go (Charged.LimitExceeded c actual) h = inr (refused_with 7 0 c.count actual (omega arith))
-    go (Charged.CoordinateOverflow c) h = inr (refused_with 8 0 c.count 0 (omega arith))
+    go (Ok c) h = fitting (leb (length r.marks) space) refl c.count (spend_count limit start r.charges c h) h
+    go (Err (ChargeError.LimitExceeded c actual)) h = inr (refused_with 7 0 c.count actual (omega arith))
+    go (Err (ChargeError.CoordinateOverflow c)) h = inr (refused_with 8 0 c.count 0 (omega arith))
 
 -- ---- the checks
 

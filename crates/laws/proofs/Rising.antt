@@ -11,7 +11,7 @@ use lib.Dec.{ltb, eqb}
 use lib.ListN.{length, get_or}
 use borrow.Author.Tests.{ltb-true, ltb-false, lt-ltb, le-ltb, eqb-true, eq-eqb, not-false}
 use Rattle.model.specs.declared.CellCoordinate.{CellCoordinate}
-use Rattle.model.specs.Job.{rises, first_from, falls_at, first_fall}
+use Rattle.model.specs.Job.{rises, falls_at, first_fall}
 use Rattle.laws.proofs.First.{first_from_none}
 
 -- ---- one coordinate before another

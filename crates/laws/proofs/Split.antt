@@ -1,5 +1,6 @@
 -- A comparison is split at the first operator that stands outside quotes: an even number of quotes stands before it (document 01, 'Split').
 -- Assumes nothing.
+use Rattle.std.specs.Prelude.{None, Some}
 use Prim.Native.Nat.{ℕ, zero, suc, ◌+◌, ◌%◌, ◌<◌}
 use native.Mathlib.Omega.{arith}
 use mathlib.Core.Path.{◌≡◌, refl, ap, subst}
@@ -12,8 +13,8 @@ use lib.Seq.{drop-cons}
 use borrow.Author.Count.{below_more}
 use borrow.Author.Tests.{eqb-true}
 use Rattle.model.specs.declared.ConditionalComparison.{ConditionalComparison}
-use Rattle.model.specs.declared.Split.{Split}
-use Rattle.model.specs.Split.{formula, operator_at, or_later, scan, split, behind, right_part}
+use Rattle.model.specs.Options.{Split}
+use Rattle.model.specs.Split.{formula, operator_at, or_later, scan, split, split_at, behind, right_part}
 
 -- how many of the first k bytes are quotes `'` (39)
 abbrev pub quotes_before : ℕ → List ℕ → ℕ
@@ -27,7 +28,7 @@ Outside bs k = quotes_before k bs % 2 ≡ 0
 
 -- no operator stands at position k
 abbrev pub NoOperator : List ℕ → ℕ → Type 0
-NoOperator bs k = operator_at k (drop k bs) ≡ Split.Nothing
+NoOperator bs k = operator_at k (drop k bs) ≡ None
 
 -- outside quotes no operator stands at the first n positions
 abbrev pub NoneWithin : List ℕ → ℕ → Type 0
@@ -37,13 +38,13 @@ NoneWithin bs n = (k : ℕ) → k < n → Outside bs k → NoOperator bs k
 pub record FirstOperator (bs : List ℕ) (op : ConditionalComparison) (at width : ℕ) : Type 0 where
   pub inside : at < length bs
   pub outside : Outside bs at
-  pub stands : operator_at at (drop at bs) ≡ Split.At op at width
+  pub stands : operator_at at (drop at bs) ≡ split_at op at width
   pub before : NoneWithin bs at
 
 -- what a split says of the bytes
 abbrev Says : List ℕ → Split → Type 0
-Says bs (Split.At op at width) = FirstOperator bs op at width
-Says bs Split.Nothing = NoneWithin bs (length bs)
+Says bs (Some s) = FirstOperator bs s.op s.at s.width
+Says bs None = NoneWithin bs (length bs)
 
 -- ---- one byte further
 
@@ -67,14 +68,14 @@ none_more : (bs : List ℕ) (n : ℕ) → NoneWithin bs n → (Outside bs n → 
 none_more bs n h here k a = below_more (λ (k : ℕ). Outside bs k → NoOperator bs k) n h here k (omega arith)
 
 -- a quote is no operator
-quote_none : (at b : ℕ) (bs : List ℕ) → eqb b 39 ≡ true → operator_at at (b ∷ bs) ≡ Split.Nothing
+quote_none : (at b : ℕ) (bs : List ℕ) → eqb b 39 ≡ true → operator_at at (b ∷ bs) ≡ None
 unfolding operator_at
 quote_none at b bs e = rw (eqb-true b 39 e)
 
 -- an operator says the position at which it was looked for
 data Placed (at : ℕ) : Split → Type 0 where
-  here : {op : ConditionalComparison} {width : ℕ} → Placed at (Split.At op at width)
-  nowhere : Placed at Split.Nothing
+  here : {op : ConditionalComparison} {width : ℕ} → Placed at (split_at op at width)
+  nowhere : Placed at None
 
 placed_either : (at : ℕ) (b : Bool) {s t : Split} → Placed at s → Placed at t → Placed at (cond b s t)
 placed_either at true p q = p
@@ -110,7 +111,7 @@ module _ (bs : List ℕ) (at : ℕ) (inside : at < length bs) (before : NoneWith
       whole : drop at bs ≡ b ∷ rest
       whole = drop-cons bs at 0 inside
 
-      more : (quoted quote : Bool) → eqb b 39 ≡ quote → Quoted quoted bs at → (Outside bs at → operator_at at (b ∷ rest) ≡ Split.Nothing)
+      more : (quoted quote : Bool) → eqb b 39 ≡ quote → Quoted quoted bs at → (Outside bs at → operator_at at (b ∷ rest) ≡ None)
           → Says bs (scan (cond quote (not quoted) quoted) (suc at) rest)
       more quoted quote e q none =
           next (cond quote (not quoted) quoted) (quoted_more bs at inside quote quoted e q) (none_more bs at before (rw whole none))
@@ -142,34 +143,35 @@ first_within bs op at width n f none a =
     let stands = f.stands in let stood = none at a f.outside in let z : ◌≡◌ {A = ℕ} 0 1 = cc in omega arith
 
 first_says : (bs : List ℕ) (op : ConditionalComparison) (at width : ℕ) → FirstOperator bs op at width → (s : Split) → Says bs s
-    → s ≡ Split.At op at width
-first_says bs op at width f (Split.At op' at' width') g =
-    let p : at' ≡ at = omega (arith, first_within bs op at width at' f g.before, first_within bs op' at' width' at g f.before) in cc
-first_says bs op at width f Split.Nothing none = absurd (first_within bs op at width (length bs) f none f.inside)
+    → s ≡ split_at op at width
+first_says bs op at width f (Some s) g =
+    let p : s.at ≡ at = omega (arith, first_within bs op at width s.at f g.before, first_within bs s.op s.at s.width at g f.before) in
+    let stands : operator_at s.at (drop s.at bs) ≡ Some s = g.stands in cc
+first_says bs op at width f None none = absurd (first_within bs op at width (length bs) f none f.inside)
 
-none_says : (bs : List ℕ) → NoneWithin bs (length bs) → (s : Split) → Says bs s → s ≡ Split.Nothing
-none_says bs none (Split.At op at width) f = absurd (first_within bs op at width (length bs) f none f.inside)
-none_says bs none Split.Nothing f = refl
+none_says : (bs : List ℕ) → NoneWithin bs (length bs) → (s : Split) → Says bs s → s ≡ None
+none_says bs none (Some s) f = absurd (first_within bs s.op s.at s.width (length bs) f none f.inside)
+none_says bs none None f = refl
 
 -- ---- the theorems
 
 -- a comparison is split at an operator exactly if that is the first one outside quotes
 pub split_least : (t : List ℕ) (op : ConditionalComparison) (at width : ℕ)
-    → (split t ≡ Split.At op at width) ↔ FirstOperator (formula t) op at width
+    → (split t ≡ split_at op at width) ↔ FirstOperator (formula t) op at width
 split_least t op at width =
     (λ e. subst (Says (formula t)) e (split_says t), λ f. first_says (formula t) op at width f (split t) (split_says t))
 
 -- it is not split exactly if no operator stands outside quotes
-pub split_none : (t : List ℕ) → (split t ≡ Split.Nothing) ↔ NoneWithin (formula t) (length (formula t))
+pub split_none : (t : List ℕ) → (split t ≡ None) ↔ NoneWithin (formula t) (length (formula t))
 split_none t = (λ e. subst (Says (formula t)) e (split_says t), λ none. none_says (formula t) none (split t) (split_says t))
 
 -- the right part is what stands behind the operator
-pub right_part_at : (t : List ℕ) (op : ConditionalComparison) (at width : ℕ) → split t ≡ Split.At op at width
+pub right_part_at : (t : List ℕ) (op : ConditionalComparison) (at width : ℕ) → split t ≡ split_at op at width
     → right_part t ≡ drop (at + width) (formula t)
 unfolding right_part behind
 right_part_at t op at width e = ap (behind (formula t)) e
 
 -- and nothing without an operator
-pub right_part_none : (t : List ℕ) → split t ≡ Split.Nothing → right_part t ≡ []
+pub right_part_none : (t : List ℕ) → split t ≡ None → right_part t ≡ []
 unfolding right_part behind
 right_part_none t e = ap (behind (formula t)) e

@@ -1,5 +1,6 @@
 -- What the definitions over the values of a range mean: the values are finite; `sorted` is the one permutation of them that is in order;
 -- `least` and `greatest` are values that no value is below or above; `threshold` is the value at its rank. Assumes nothing.
+use Rattle.std.specs.Prelude.{Some, None}
 use mathlib.Core.Path.{◌≡◌, refl, subst}
 use mathlib.Core.Bool.{Bool, true, false, cond, Bool-set}
 use mathlib.Core.List.{List, [], ◌∷◌, ◌++◌, Mem, Subset, cons-subset, mem-cast, mem-cons_self, mem-cons_of_mem, not-mem-nil}
@@ -19,7 +20,7 @@ use Rattle.model.specs.Values.{least, greatest, comes_before, sorted, value_at, 
 use Rattle.model.specs.declared.Cell.{Cell}
 use Rattle.model.specs.declared.CellValue.{CellValue}
 use Rattle.model.specs.declared.Range.{Range}
-use Rattle.model.specs.declared.Reading.{Reading}
+use Rattle.model.specs.Options.{Reading}
 use Rattle.model.specs.Sheet.{Sheet, CellAt}
 use Rattle.model.specs.Readings.{max_wraps, finite, numeric_value, numeric_cell_value}
 use Rattle.model.specs.Rule.{cells_in, with_number, numbers, values}
@@ -208,13 +209,13 @@ threshold_between bottom count xs r h k =
 -- ---- the values of a range
 
 abbrev FiniteReading : Reading → Type 0
-FiniteReading (Reading.Number x) = Finite x
-FiniteReading Reading.Nothing = Unit {0}
+FiniteReading (Some x) = Finite x
+FiniteReading None = Unit {0}
 
-if_finite : (x : Float) → FiniteReading (cond (finite x) (Reading.Number x) Reading.Nothing)
+if_finite : (x : Float) → FiniteReading (cond (finite x) (Some x) None)
 if_finite x = decided (finite x) refl
   where
-    decided : (b : Bool) → finite x ≡ b → FiniteReading (cond b (Reading.Number x) Reading.Nothing)
+    decided : (b : Bool) → finite x ≡ b → FiniteReading (cond b (Some x) None)
     decided true e = e
     decided false e = tt
 
@@ -227,11 +228,11 @@ numeric_value_finite (CellValue.Bool b) = tt
 numeric_value_finite CellValue.Error = tt
 
 -- the number that a cell has is finite
-pub numeric_cell_value_finite : (c : Cell) (x : Float) → numeric_cell_value c ≡ Reading.Number x → Finite x
+pub numeric_cell_value_finite : (c : Cell) (x : Float) → numeric_cell_value c ≡ Some x → Finite x
 unfolding numeric_cell_value
 numeric_cell_value_finite c x e = subst FiniteReading e (read (leb c.wraps max_wraps))
   where
-    read : (b : Bool) → FiniteReading (cond b (numeric_value c.value) Reading.Nothing)
+    read : (b : Bool) → FiniteReading (cond b (numeric_value c.value) None)
     read true = numeric_value_finite c.value
     read false = tt
 
@@ -241,8 +242,8 @@ numbers_finite [] = λ a m. absurd (not-mem-nil m)
 numbers_finite (c ∷ cs) = joined (numeric_cell_value c.cell) refl (numbers_finite cs)
   where
     joined : (x : Reading) → numeric_cell_value c.cell ≡ x → Each Finite (numbers cs) → Each Finite (with_number x (numbers cs))
-    joined (Reading.Number x) e later = each_cons finite (numeric_cell_value_finite c.cell x e) later
-    joined Reading.Nothing e later = later
+    joined (Some x) e later = each_cons finite (numeric_cell_value_finite c.cell x e) later
+    joined None e later = later
 
 -- the values of a range are finite
 pub values_finite : (s : Sheet) (r : Range) → Each Finite (values s r)

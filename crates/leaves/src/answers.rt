@@ -1,131 +1,87 @@
-// An answer, and how it is written. A reference's name, and a text, are in the bytes that were lent for them.
-use model::{A1Reference, SheetName, Span};
-use put::{put_byte, put_bytes, put_hex, put_number, put_text};
-use readings::number::is_finite;
+// An answer, and how it is written. The name of a reference, and a text, are in the bytes that were lent for them.
+use model::{A1Reference, Normalized, Split};
+use ratio::shape_number;
 use readings::text::text_at;
+use std::fmt;
 
 #[derive(Clone, Copy)]
-pub(crate) enum Answer {
+pub(crate) enum Answer<'a> {
     Number(u64),
     Float(f64),
-    Ratio { ppm: u32, shape: u32 },
-    Place { at: usize, width: usize, op: u64 },
-    Reference(A1Reference),
-    Text(Span),
+    Ratio(Normalized),
+    Place(Split),
+    Reference(Reference<'a>),
+    Text(&'a [u8]),
     NotZero,
     Nothing,
-    Malformed,
 }
 
-// An answer, and the place after its line.
+// A reference, and the bytes in which its name lies.
 #[derive(Clone, Copy)]
-pub(crate) struct Answered {
-    pub(crate) answer: Answer,
-    pub(crate) next: usize,
+pub(crate) struct Reference<'a> {
+    pub(crate) reference: A1Reference,
+    pub(crate) names: &'a [u8],
 }
 
-pub(crate) fn malformed(at: usize) -> Answered {
-    Answered {
-        answer: Answer::Malformed,
-        next: at,
+// `t`, and each byte as two digits.
+#[derive(Drop)]
+struct Text<'a>(&'a [u8]);
+
+impl From<bool> for Answer<'static> {
+    fn from(holds: bool) -> Answer<'static> {
+        Answer::Number(u64::from(holds))
     }
 }
 
-pub(crate) fn number(n: u64, next: usize) -> Answered {
-    Answered {
-        answer: Answer::Number(n),
-        next,
+impl fmt::Display for Answer<'_> {
+    fn fmt<W: fmt::Write>(&self, f: &mut fmt::Formatter<W>) -> fmt::Result {
+        match *self {
+            Answer::Number(n) => write!(f, "{n}"),
+            Answer::Float(x) if x.is_finite() => write!(f, "n{:016x}", x.to_bits()),
+            Answer::Float(_) => write!(f, "not finite"),
+            Answer::Ratio(Normalized { ppm, shape }) => write!(f, "{ppm} {}", shape_number(shape)),
+            Answer::Place(Split { op, at, width }) => write!(f, "{at} {width} {}", op as u8),
+            Answer::Reference(reference) => write!(f, "{reference}"),
+            Answer::Text(bytes) => write!(f, "{}", Text(bytes)),
+            Answer::NotZero => write!(f, "not zero"),
+            Answer::Nothing => write!(f, "none"),
+        }
     }
-}
-
-pub(crate) fn flag(holds: bool, next: usize) -> Answered {
-    if holds {
-        return number(1, next);
-    }
-    number(0, next)
-}
-
-pub(crate) fn nothing(next: usize) -> Answered {
-    Answered {
-        answer: Answer::Nothing,
-        next,
-    }
-}
-
-// ---- text
-
-fn put_float(out: &mut [u8], at: usize, x: f64) -> usize {
-    if is_finite(x) {
-        let letter = put_byte(out, at, b'n');
-        let digits = put_hex(out, letter, 16, f64::to_bits(x));
-        return put_byte(out, digits, b'\n');
-    }
-    put_bytes(out, at, b"not finite\n")
 }
 
 // 1 for an absolute row plus 2 for an absolute column.
-fn absolute_number(reference: A1Reference) -> u64 {
-    if reference.row_absolute {
-        return if reference.col_absolute { 3 } else { 1 };
-    }
-    if reference.col_absolute { 2 } else { 0 }
-}
-
-fn put_name(out: &mut [u8], at: usize, sheet: SheetName, lent: &[u8], end: u8) -> usize {
-    match sheet {
-        SheetName::This => {
-            let dash = put_byte(out, at, b'-');
-            put_byte(out, dash, end)
-        }
-        SheetName::Named(name) => put_text(out, at, text_at(lent, name), end),
+fn absolute_number(reference: A1Reference) -> u8 {
+    match (reference.row_absolute, reference.col_absolute) {
+        (false, false) => 0,
+        (true, false) => 1,
+        (false, true) => 2,
+        (true, true) => 3,
     }
 }
 
-// As the operand of a job text, and the byte that ends it.
-pub(crate) fn put_reference(
-    out: &mut [u8],
-    at: usize,
-    reference: A1Reference,
-    lent: &[u8],
-    end: u8,
-) -> usize {
-    let letter = put_byte(out, at, b'r');
-    let row = put_number(out, letter, reference.row as u64, b',');
-    let col = put_number(out, row, reference.col as u64, b',');
-    let absolute = put_number(out, col, absolute_number(reference), b',');
-    let sheet = reference.sheet;
-    put_name(out, absolute, sheet, lent, end)
-}
-
-pub(crate) fn put_answer(out: &mut [u8], at: usize, answer: Answer, lent: &[u8]) -> usize {
-    match answer {
-        Answer::Number(n) => put_number(out, at, n, b'\n'),
-        Answer::Float(x) => put_float(out, at, x),
-        Answer::Ratio { ppm, shape } => {
-            let first = put_number(out, at, ppm as u64, b' ');
-            put_number(out, first, shape as u64, b'\n')
+// As the operand of a job text.
+impl fmt::Display for Reference<'_> {
+    fn fmt<W: fmt::Write>(&self, f: &mut fmt::Formatter<W>) -> fmt::Result {
+        let A1Reference {
+            sheet,
+            row,
+            col,
+            ..
+        } = self.reference;
+        write!(f, "r{row},{col},{},", absolute_number(self.reference))?;
+        match sheet {
+            None => write!(f, "-"),
+            Some(name) => write!(f, "{}", Text(text_at(self.names, name))),
         }
-        Answer::Place {
-            at: place,
-            width,
-            op,
-        } => {
-            let first = put_number(out, at, place as u64, b' ');
-            let second = put_number(out, first, width as u64, b' ');
-            put_number(out, second, op, b'\n')
-        }
-        Answer::Reference(reference) => put_reference(out, at, reference, lent, b'\n'),
-        Answer::Text(text) => put_text(out, at, text_at(lent, text), b'\n'),
-        Answer::NotZero => put_bytes(out, at, b"not zero\n"),
-        Answer::Nothing => put_bytes(out, at, b"none\n"),
-        Answer::Malformed => at,
     }
 }
 
-pub(crate) fn is_malformed(answer: Answer) -> bool {
-    if let Answer::Malformed = answer {
-        true
-    } else {
-        false
+impl fmt::Display for Text<'_> {
+    fn fmt<W: fmt::Write>(&self, f: &mut fmt::Formatter<W>) -> fmt::Result {
+        write!(f, "t")?;
+        for byte in self.0 {
+            write!(f, "{byte:02x}")?;
+        }
+        Ok(())
     }
 }

@@ -1,248 +1,192 @@
-// The fields of a leaf's line, as those of a job text: each reader gives the place after its field.
-use fields::{Field, ReadText, bits, byte, decimal, text, word};
-use model::{A1Reference, Cell, SheetName, Span};
-use readings::number::{cell_value, float_of_bits, is_finite};
+// The arguments of a leaf's line, as the fields of a job text: each reader takes the next one.
+use fields::Malformed;
+use model::{A1Reference, Cell, CellValue, Span};
+use readings::number::float_of_bits;
 
-#[derive(Clone, Copy)]
-pub(crate) struct FloatField {
-    pub(crate) ok: bool,
-    pub(crate) value: f64,
-    pub(crate) next: usize,
+// Where the first text of a line lies: not at the pool's front, so that its place is not 0.
+const FIRST_TEXT: u32 = 9;
+
+// A line and the place up to which it is read, and the pool and the place up to which texts of the line lie in it.
+#[derive(Drop)]
+pub(crate) struct Arguments<'a> {
+    line: &'a [u8],
+    at: usize,
+    pool: &'a mut [u8],
+    used: u32,
 }
 
-// A value in columns, as a cell has it: its kind, its bits, and its text in the pool or its bool as a length.
-#[derive(Clone, Copy)]
-struct Held {
-    ok: bool,
-    kind: u8,
-    bits: u64,
-    at: u32,
-    len: u32,
-    next: usize,
-}
-
-// A cell, and how many bytes of the pool its text takes.
-#[derive(Clone, Copy)]
-pub(crate) struct CellField {
-    pub(crate) ok: bool,
-    pub(crate) cell: Cell,
-    pub(crate) taken: usize,
-    pub(crate) next: usize,
-}
-
-// Values in a slice: how many there are.
-#[derive(Clone, Copy)]
-pub(crate) struct ListField {
-    pub(crate) ok: bool,
-    pub(crate) number: usize,
-    pub(crate) next: usize,
-}
-
-// Bytes that are in the pool.
-#[derive(Clone, Copy)]
-pub(crate) struct BytesField {
-    pub(crate) ok: bool,
-    pub(crate) span: Span,
-    pub(crate) next: usize,
-}
-
-#[derive(Clone, Copy)]
-struct NameField {
-    ok: bool,
-    sheet: SheetName,
-    next: usize,
-}
-
-#[derive(Clone, Copy)]
-pub(crate) struct ReferenceField {
-    pub(crate) ok: bool,
-    pub(crate) reference: A1Reference,
-    pub(crate) next: usize,
-}
-
-// Numbers that were read within a width.
-pub(crate) fn narrow8(x: u64) -> u8 {
-    if x < 256 { x as u8 } else { 0 }
-}
-
-fn narrow16(x: u64) -> u16 {
-    if x < 65536 { x as u16 } else { 0 }
-}
-
-pub(crate) fn narrow32(x: u64) -> u32 {
-    if x < 4294967296 { x as u32 } else { 0 }
-}
-
-// ---- numbers
-
-pub(crate) fn float(s: &[u8], at: usize, end: u8) -> FloatField {
-    let letter = byte(s, at, b'n');
-    let digits = bits(s, letter.next, end);
-    FloatField {
-        ok: letter.ok && digits.ok,
-        value: float_of_bits(digits.value),
-        next: digits.next,
-    }
-}
-
-// A finite value of a list: a space is behind it, or the line's end behind the last one.
-fn list_value(s: &[u8], at: usize, end: u8) -> FloatField {
-    let mut x = float(s, at, end);
-    x.ok = x.ok && is_finite(x.value);
-    x
-}
-
-// The values of a list up to the line's end, into a slice.
-pub(crate) fn list(s: &[u8], at: usize, values: &mut [f64]) -> ListField {
-    let mut number = 0;
-    let mut next = at;
-    while number < values.len() {
-        let inner = list_value(s, next, b' ');
-        if !inner.ok {
-            let last = list_value(s, next, b'\n');
-            values[number] = last.value;
-            return ListField {
-                ok: last.ok,
-                number: number + 1,
-                next: last.next,
-            };
+impl<'a> Arguments<'a> {
+    pub(crate) fn new(line: &'a [u8], at: usize, pool: &'a mut [u8]) -> Arguments<'a> {
+        Arguments {
+            line,
+            at,
+            pool,
+            used: FIRST_TEXT,
         }
-        values[number] = inner.value;
-        number += 1;
-        next = inner.next;
     }
-    ListField {
-        ok: false,
-        number,
-        next,
-    }
-}
 
-// ---- cells
+    pub(crate) fn pool(&self) -> &[u8] {
+        self.pool
+    }
 
-fn held_bits(read: Field, kind: u8) -> Held {
-    Held {
-        ok: read.ok,
-        kind,
-        bits: read.value,
-        at: 0,
-        len: 0,
-        next: read.next,
+    // What is left of the line, with its end.
+    pub(crate) fn rest(&self) -> &[u8] {
+        let at = self.at.min(self.line.len());
+        &self.line[at..]
     }
-}
 
-fn held_text(read: ReadText, used: usize) -> Held {
-    Held {
-        ok: read.fits,
-        kind: 3,
-        bits: 0,
-        at: narrow32(used as u64),
-        len: narrow32(read.length),
-        next: read.next,
+    pub(crate) fn malformed(&self) -> Malformed {
+        Malformed { at: self.at }
     }
-}
 
-fn held_bool(read: Field) -> Held {
-    Held {
-        ok: read.ok,
-        kind: 4,
-        bits: 0,
-        at: 0,
-        len: narrow32(read.value),
-        next: read.next,
-    }
-}
+    // ---- words
 
-fn held_value(s: &[u8], at: usize, end: u8, pool: &mut [u8], used: usize) -> Held {
-    let number = byte(s, at, b'n');
-    if number.ok {
-        return held_bits(bits(s, number.next, end), 1);
+    pub(crate) fn word(&mut self, word: &[u8]) -> Result<(), Malformed> {
+        self.at = fields::word(self.line, self.at, word)?;
+        Ok(())
     }
-    let date = byte(s, at, b'd');
-    if date.ok {
-        return held_bits(bits(s, date.next, end), 2);
-    }
-    let letters = byte(s, at, b't');
-    if letters.ok {
-        return held_text(text(s, letters.next, end, pool, used), used);
-    }
-    let bool = byte(s, at, b'b');
-    if bool.ok {
-        return held_bool(decimal(s, bool.next, 1, end));
-    }
-    let error = byte(s, at, b'e');
-    let mut ended = byte(s, error.next, end);
-    ended.ok = error.ok && ended.ok;
-    held_bits(ended, 5)
-}
 
-// Wraps and a value. Its text goes into the pool from `used` on.
-pub(crate) fn cell(s: &[u8], at: usize, end: u8, pool: &mut [u8], used: usize) -> CellField {
-    let wraps = decimal(s, at, 255, b' ');
-    let value = held_value(s, wraps.next, end, pool, used);
-    CellField {
-        ok: wraps.ok && value.ok,
-        cell: Cell {
-            value: cell_value(value.kind, value.bits, value.at, value.len),
-            wraps: narrow8(wraps.value),
-        },
-        taken: value.len as usize,
-        next: value.next,
+    fn letter(&mut self) -> Result<u8, Malformed> {
+        let letter = *self.line.get(self.at).ok_or(self.malformed())?;
+        self.at += 1;
+        Ok(letter)
     }
-}
 
-// ---- references
+    // ---- numbers
 
-// `t` and pairs of digits. The bytes go into the pool from `used` on.
-pub(crate) fn bytes(s: &[u8], at: usize, end: u8, pool: &mut [u8], used: usize) -> BytesField {
-    let letter = byte(s, at, b't');
-    let read = text(s, letter.next, end, pool, used);
-    BytesField {
-        ok: letter.ok && read.fits,
-        span: Span {
-            at: narrow32(used as u64),
-            len: narrow32(read.length),
-        },
-        next: read.next,
+    // A decimal, for a number or an operator.
+    pub(crate) fn number<T: TryFrom<u64>>(&mut self, end: u8) -> Result<T, Malformed>
+    where
+        T::Error: Drop,
+    {
+        let field = fields::decimal(self.line, self.at, u64::MAX, end)?;
+        let number = T::try_from(field.value).map_err(|_| self.malformed())?;
+        self.at = field.next;
+        Ok(number)
     }
-}
 
-// `-` for no name.
-fn sheet_name(s: &[u8], at: usize, pool: &mut [u8], used: usize) -> NameField {
-    let dash = word(s, at, b"-\n");
-    if dash.ok {
-        return NameField {
-            ok: true,
-            sheet: SheetName::This,
-            next: dash.next,
-        };
+    fn bits(&mut self, end: u8) -> Result<u64, Malformed> {
+        let field = fields::bits(self.line, self.at, end)?;
+        self.at = field.next;
+        Ok(field.value)
     }
-    let name = bytes(s, at, b'\n', pool, used);
-    let span = name.span;
-    NameField {
-        ok: name.ok,
-        sheet: SheetName::Named(span),
-        next: name.next,
-    }
-}
 
-// A reference up to the line's end. Its name goes into the pool from `used` on.
-pub(crate) fn reference(s: &[u8], at: usize, pool: &mut [u8], used: usize) -> ReferenceField {
-    let letter = byte(s, at, b'r');
-    let row = decimal(s, letter.next, 4294967295, b',');
-    let col = decimal(s, row.next, 65535, b',');
-    let absolute = decimal(s, col.next, 3, b',');
-    let name = sheet_name(s, absolute.next, pool, used);
-    let sheet = name.sheet;
-    ReferenceField {
-        ok: letter.ok && row.ok && col.ok && absolute.ok && name.ok,
-        reference: A1Reference {
+    pub(crate) fn float(&mut self, end: u8) -> Result<f64, Malformed> {
+        self.word(b"n")?;
+        Ok(float_of_bits(self.bits(end)?))
+    }
+
+    // A number of a list, and whether it is the last: a space is behind it, or the line's end behind the last.
+    fn listed(&mut self) -> Result<(f64, bool), Malformed> {
+        let start = self.at;
+        if let Ok(x) = self.float(b' ') {
+            return Ok((x, false));
+        }
+        self.at = start;
+        Ok((self.float(b'\n')?, true))
+    }
+
+    // The finite numbers of a list up to the line's end, into memory that is lent for them.
+    pub(crate) fn list<'v>(&mut self, values: &'v mut [f64]) -> Result<&'v [f64], Malformed> {
+        for i in 0..values.len() {
+            let (x, is_last) = self.listed()?;
+            if !x.is_finite() {
+                break;
+            }
+            values[i] = x;
+            if is_last {
+                return Ok(&values[..=i]);
+            }
+        }
+        Err(self.malformed())
+    }
+
+    // ---- texts
+
+    // Pairs of digits. The bytes go into the pool, behind the texts that are there.
+    fn pairs(&mut self, end: u8) -> Result<Span, Malformed> {
+        let read = fields::text(self.line, self.at, end, self.pool, self.used as usize)?;
+        let len = u32::try_from(read.length).map_err(|_| self.malformed())?;
+        let used = self.used.checked_add(len).ok_or(self.malformed())?;
+        if !read.fits {
+            return Err(self.malformed());
+        }
+        let at = self.used;
+        self.used = used;
+        self.at = read.next;
+        Ok(Span { at, len })
+    }
+
+    // `t` and pairs of digits.
+    pub(crate) fn text(&mut self, end: u8) -> Result<Span, Malformed> {
+        self.word(b"t")?;
+        self.pairs(end)
+    }
+
+    // ---- cells
+
+    fn value(&mut self, end: u8) -> Result<CellValue, Malformed> {
+        match self.letter()? {
+            b'n' => Ok(CellValue::Number(float_of_bits(self.bits(end)?))),
+            b'd' => Ok(CellValue::Date(float_of_bits(self.bits(end)?))),
+            b't' => Ok(CellValue::Text(self.pairs(end)?)),
+            b'b' => Ok(CellValue::Bool(self.flag(end)?)),
+            b'e' => {
+                self.word(&[end])?;
+                Ok(CellValue::Error)
+            }
+            _ => Err(self.malformed()),
+        }
+    }
+
+    fn flag(&mut self, end: u8) -> Result<bool, Malformed> {
+        match self.number(end)? {
+            0u8 => Ok(false),
+            1 => Ok(true),
+            _ => Err(self.malformed()),
+        }
+    }
+
+    // Wraps and a value.
+    pub(crate) fn cell(&mut self, end: u8) -> Result<Cell, Malformed> {
+        let wraps = self.number(b' ')?;
+        let value = self.value(end)?;
+        Ok(Cell { value, wraps })
+    }
+
+    // ---- references
+
+    // `-` for no name.
+    fn sheet_name(&mut self, end: u8) -> Result<Option<Span>, Malformed> {
+        if let Ok(()) = self.word(&[b'-', end]) {
+            return Ok(None);
+        }
+        Ok(Some(self.text(end)?))
+    }
+
+    pub(crate) fn reference(&mut self, end: u8) -> Result<A1Reference, Malformed> {
+        self.word(b"r")?;
+        let row = self.number(b',')?;
+        let col = self.number(b',')?;
+        let (row_absolute, col_absolute) = self.absolute()?;
+        let sheet = self.sheet_name(end)?;
+        Ok(A1Reference {
             sheet,
-            row: narrow32(row.value),
-            col: narrow16(col.value),
-            row_absolute: absolute.value % 2 == 1,
-            col_absolute: absolute.value >= 2,
-        },
-        next: name.next,
+            row,
+            col,
+            row_absolute,
+            col_absolute,
+        })
+    }
+
+    // 1 for an absolute row plus 2 for an absolute column.
+    fn absolute(&mut self) -> Result<(bool, bool), Malformed> {
+        match self.number(b',')? {
+            0u8 => Ok((false, false)),
+            1 => Ok((true, false)),
+            2 => Ok((false, true)),
+            3 => Ok((true, true)),
+            _ => Err(self.malformed()),
+        }
     }
 }

@@ -1,84 +1,60 @@
 // A line: the leaf's name and its arguments. tools/oracle/README.md has the lines.
-use crate::answers::{Answered, malformed};
+use crate::answers::Answer;
+use crate::arguments::Arguments;
 use crate::numbers::{
     answer_axis, answer_cell_is, answer_channel, answer_expression, answer_midpoint,
     answer_normalized, answer_ratio,
 };
 use crate::texts::{answer_key, answer_number, answer_split};
 use crate::typed::{answer_reads, answer_typed, answer_writes};
-use fields::word;
+use fields::Malformed;
+use std::alloc::{AllocError, Global};
 
-fn answer_numbers(s: &[u8], at: usize) -> Answered {
-    let ratio = word(s, at, b"ratio ");
-    if ratio.ok {
-        return answer_ratio(s, ratio.next);
-    }
-    let normalized = word(s, at, b"normalized ");
-    if normalized.ok {
-        return answer_normalized(s, normalized.next);
-    }
-    let channel = word(s, at, b"channel ");
-    if channel.ok {
-        return answer_channel(s, channel.next);
-    }
-    let cell_is = word(s, at, b"cellis ");
-    if cell_is.ok {
-        return answer_cell_is(s, cell_is.next);
-    }
-    let expression = word(s, at, b"expr ");
-    if expression.ok {
-        return answer_expression(s, expression.next);
-    }
-    let axis = word(s, at, b"axis ");
-    if axis.ok {
-        return answer_axis(s, axis.next);
-    }
-    malformed(at)
+// As many bytes as the longest line.
+const BYTES: usize = 65536;
+
+// As many numbers as a line can hold.
+const NUMBERS: usize = 4096;
+
+// What the leaves are lent: for the texts of a line, for what a leaf writes, and for a list of numbers.
+#[derive(Drop)]
+pub(crate) struct Lent {
+    pool: Vec<u8>,
+    written: Vec<u8>,
+    values: Vec<f64>,
 }
 
-fn answer_texts(s: &[u8], at: usize, pool: &mut [u8]) -> Answered {
-    let split = word(s, at, b"split ");
-    if split.ok {
-        return answer_split(s, split.next, pool);
+impl Lent {
+    pub(crate) fn new(alloc: Global) -> Result<Lent, AllocError> {
+        Ok(Lent {
+            pool: vec![in alloc; 0; BYTES]?,
+            written: vec![in alloc; 0; BYTES]?,
+            values: vec![in alloc; 0.0; NUMBERS]?,
+        })
     }
-    let number = word(s, at, b"number ");
-    if number.ok {
-        return answer_number(s, number.next, pool);
-    }
-    let key = word(s, at, b"key ");
-    if key.ok {
-        return answer_key(s, key.next, pool);
-    }
-    answer_numbers(s, at)
 }
 
-fn answer_references(s: &[u8], at: usize, pool: &mut [u8], lent: &mut [u8]) -> Answered {
-    let reads = word(s, at, b"reads ");
-    if reads.ok {
-        return answer_reads(s, reads.next, pool, lent);
+// The answer to a line, which ends with its line end.
+pub(crate) fn answer_line<'a>(line: &[u8], lent: &'a mut Lent) -> Result<Answer<'a>, Malformed> {
+    let space = line
+        .iter()
+        .position(|b| *b == b' ')
+        .ok_or(Malformed { at: 0 })?;
+    let arguments = &mut Arguments::new(line, space + 1, &mut lent.pool);
+    match &line[..space] {
+        b"ratio" => answer_ratio(arguments),
+        b"normalized" => answer_normalized(arguments),
+        b"channel" => answer_channel(arguments),
+        b"cellis" => answer_cell_is(arguments),
+        b"expr" => answer_expression(arguments),
+        b"midpoint" => answer_midpoint(arguments, &mut lent.values),
+        b"axis" => answer_axis(arguments),
+        b"split" => answer_split(arguments),
+        b"number" => answer_number(arguments),
+        b"key" => answer_key(arguments),
+        b"reads" => answer_reads(arguments, &mut lent.written),
+        b"writes" => answer_writes(arguments, &mut lent.written),
+        b"typed" => answer_typed(arguments),
+        _ => Err(Malformed { at: 0 }),
     }
-    let writes = word(s, at, b"writes ");
-    if writes.ok {
-        return answer_writes(s, writes.next, pool, lent);
-    }
-    let typed = word(s, at, b"typed ");
-    if typed.ok {
-        return answer_typed(s, typed.next, pool);
-    }
-    answer_texts(s, at, pool)
-}
-
-// The answer to the line at a place. The pool is lent for texts, `lent` for what a leaf writes, the values for a list of numbers.
-pub(crate) fn answer_line(
-    s: &[u8],
-    at: usize,
-    pool: &mut [u8],
-    lent: &mut [u8],
-    values: &mut [f64],
-) -> Answered {
-    let midpoint = word(s, at, b"midpoint ");
-    if midpoint.ok {
-        return answer_midpoint(s, midpoint.next, values);
-    }
-    answer_references(s, at, pool, lent)
 }

@@ -1,176 +1,117 @@
 // References as they are typed, read and written. What is lent for a name or a text is filled first, so that it shows what is left there.
-use crate::answers::{Answer, Answered, flag, malformed, put_answer, put_reference};
-use crate::arguments::{bytes, narrow32, reference};
-use a1reader::{ReadReference, parse_a1_reference};
-use a1writer::{WrittenReference, write_a1_reference};
-use fields::{decimal, word};
-use model::{A1Reference, SheetName, Span};
+use crate::answers::{Answer, Reference};
+use crate::arguments::Arguments;
+use a1reader::{ReadError, parse_a1_reference};
+use a1writer::{WriteError, write_a1_reference};
+use fields::Malformed;
+use model::A1Reference;
 use readings::text::text_at;
-
-// As many bytes as a line may lend.
-const LARGEST_SPACE: u64 = 65535;
-
-// Where the name of a reference to be written lies: not at the pool's front.
-const NAME_AT: usize = 9;
+use std::fmt;
+use std::fmt::Write;
 
 const FILLED: u8 = 165;
 
 // ---- what is lent
 
-fn lend(lent: &mut [u8], space: usize) -> &mut [u8] {
-    if space < lent.len() {
-        return &mut lent[0..space];
-    }
-    lent
-}
-
-fn fill(lent: &mut [u8]) {
-    let mut i = 0;
-    while i < lent.len() {
-        lent[i] = FILLED;
-        i += 1;
-    }
+// The first so many bytes; all where there are fewer.
+fn front(lent: &mut [u8], length: usize) -> &mut [u8] {
+    let length = length.min(lent.len());
+    &mut lent[..length]
 }
 
 fn is_zero_from(lent: &[u8], from: usize) -> bool {
-    let mut i = from;
-    while i < lent.len() {
-        if lent[i] != 0 {
-            return false;
-        }
-        i += 1;
-    }
-    true
+    let from = from.min(lent.len());
+    lent[from..].iter().all(|b| *b == 0)
 }
 
 fn name_length(reference: A1Reference) -> usize {
-    let sheet = reference.sheet;
-    match sheet {
-        SheetName::This => 0,
-        SheetName::Named(name) => name.len as usize,
-    }
+    reference.sheet.map_or(0, |name| name.len as usize)
 }
 
-// How many bytes from the front hold the name or the text.
-fn length_used(answer: Answer) -> usize {
-    match answer {
-        Answer::Reference(reference) => name_length(reference),
-        Answer::Text(text) => text.len as usize,
-        _ => 0,
+// ---- reading and writing
+
+// The reference of an operand's bytes, unless a lent byte behind its name is not 0.
+fn read_into<'a>(typed: &[u8], lent: &'a mut [u8]) -> Answer<'a> {
+    lent.fill(FILLED);
+    let read = parse_a1_reference(typed, lent);
+    if !is_zero_from(lent, read.map_or(0, name_length)) {
+        return Answer::NotZero;
     }
-}
-
-// An answer, unless a lent byte behind what it uses is not 0.
-fn looked_at(answer: Answer, lent: &[u8]) -> Answer {
-    if is_zero_from(lent, length_used(answer)) {
-        return answer;
-    }
-    Answer::NotZero
-}
-
-// ---- reading
-
-fn answer_of_reading(read: ReadReference) -> Answer {
     match read {
-        ReadReference::Read(reference) => Answer::Reference(reference),
-        ReadReference::NoReference => Answer::Number(14),
-        ReadReference::NameTooLong => Answer::Number(15),
-    }
-}
-
-fn read_into(typed: &[u8], lent: &mut [u8]) -> Answer {
-    fill(lent);
-    let answer = answer_of_reading(parse_a1_reference(typed, lent));
-    looked_at(answer, lent)
-}
-
-pub(crate) fn answer_reads(s: &[u8], at: usize, pool: &mut [u8], lent: &mut [u8]) -> Answered {
-    let space = decimal(s, at, LARGEST_SPACE, b' ');
-    let typed = bytes(s, space.next, b'\n', pool, 0);
-    if !(space.ok && typed.ok) {
-        return malformed(at);
-    }
-    let span = typed.span;
-    Answered {
-        answer: read_into(text_at(pool, span), lend(lent, space.value as usize)),
-        next: typed.next,
-    }
-}
-
-// ---- writing
-
-fn answer_of_writing(written: WrittenReference) -> Answer {
-    match written {
-        WrittenReference::Written { length } => Answer::Text(Span {
-            at: 0,
-            len: narrow32(length as u64),
+        Ok(reference) => Answer::Reference(Reference {
+            reference,
+            names: lent,
         }),
-        WrittenReference::NoReference => Answer::Number(14),
-        WrittenReference::TextTooLong => Answer::Number(15),
+        Err(ReadError::NoReference) => Answer::Number(14),
+        Err(ReadError::NameTooLong) => Answer::Number(15),
     }
 }
 
-fn write_into(reference: A1Reference, pool: &[u8], lent: &mut [u8]) -> Answer {
-    fill(lent);
-    let answer = answer_of_writing(write_a1_reference(reference, pool, lent));
-    looked_at(answer, lent)
+// The text of a reference, unless a lent byte behind it is not 0.
+fn write_into<'a>(reference: A1Reference, names: &[u8], lent: &'a mut [u8]) -> Answer<'a> {
+    lent.fill(FILLED);
+    let written = write_a1_reference(reference, names, lent);
+    if !is_zero_from(lent, written.unwrap_or(0)) {
+        return Answer::NotZero;
+    }
+    match written {
+        Ok(length) => Answer::Text(front(lent, length)),
+        Err(WriteError::NoReference) => Answer::Number(14),
+        Err(WriteError::TextTooLong) => Answer::Number(15),
+    }
 }
 
-pub(crate) fn answer_writes(s: &[u8], at: usize, pool: &mut [u8], lent: &mut [u8]) -> Answered {
-    let space = decimal(s, at, LARGEST_SPACE, b' ');
-    let named = reference(s, space.next, pool, NAME_AT);
-    if !(space.ok && named.ok) {
-        return malformed(at);
-    }
-    let reference = named.reference;
-    Answered {
-        answer: write_into(reference, pool, lend(lent, space.value as usize)),
-        next: named.next,
-    }
+pub(crate) fn answer_reads<'a>(
+    arguments: &mut Arguments,
+    lent: &'a mut [u8],
+) -> Result<Answer<'a>, Malformed> {
+    let space: u16 = arguments.number(b' ')?;
+    let span = arguments.text(b'\n')?;
+    let typed = text_at(arguments.pool(), span);
+    let lent = front(lent, usize::from(space));
+    Ok(read_into(typed, lent))
+}
+
+pub(crate) fn answer_writes<'a>(
+    arguments: &mut Arguments,
+    lent: &'a mut [u8],
+) -> Result<Answer<'a>, Malformed> {
+    let space: u16 = arguments.number(b' ')?;
+    let reference = arguments.reference(b'\n')?;
+    let lent = front(lent, usize::from(space));
+    Ok(write_into(reference, arguments.pool(), lent))
 }
 
 // ---- both
 
+// A writer to which nothing but these bytes can be written.
+#[derive(Drop)]
+struct Said<'a>(&'a [u8]);
+
+impl Write for Said<'_> {
+    fn write_str(&mut self, s: &str) -> fmt::Result {
+        self.0 = self.0.strip_prefix(s.as_bytes()).ok_or(fmt::Error)?;
+        Ok(())
+    }
+}
+
 // The reference and its text, or a number. A name has at most 255 bytes, a text at most 525.
-fn put_forms(out: &mut [u8], typed: &[u8]) -> usize {
+fn write_forms(said: &mut Said, typed: &[u8]) -> fmt::Result {
     let mut name = [FILLED; 255];
     let mut text = [FILLED; 525];
     let read = read_into(typed, &mut name);
     let Answer::Reference(reference) = read else {
-        return put_answer(out, 0, read, &name);
+        return writeln!(said, "{read}");
     };
-    let next = put_reference(out, 0, reference, &name, b' ');
-    let written = write_into(reference, &name, &mut text);
-    put_answer(out, next, written, &text)
+    let written = write_into(reference.reference, reference.names, &mut text);
+    writeln!(said, "{reference} {written}")
 }
 
-fn front(text: &[u8], length: usize) -> &[u8] {
-    if length < text.len() {
-        return &text[0..length];
-    }
-    text
-}
-
-// The place after the next line end.
-fn next_line(s: &[u8], at: usize) -> usize {
-    let mut i = at;
-    while i < s.len() {
-        if s[i] == b'\n' {
-            return i + 1;
-        }
-        i += 1;
-    }
-    i
-}
-
-// The forms end as the line does, so they are all of the rest where they are its start.
-pub(crate) fn answer_typed(s: &[u8], at: usize, pool: &mut [u8]) -> Answered {
-    let typed = bytes(s, at, b' ', pool, 0);
-    if !typed.ok {
-        return malformed(at);
-    }
-    let mut forms = [0u8; 2048];
-    let length = put_forms(&mut forms, text_at(pool, typed.span));
-    let said = word(s, typed.next, front(&forms, length));
-    flag(said.ok, next_line(s, typed.next))
+// Whether the rest of the line is the forms and their end.
+pub(crate) fn answer_typed(arguments: &mut Arguments) -> Result<Answer<'static>, Malformed> {
+    let span = arguments.text(b' ')?;
+    let typed = text_at(arguments.pool(), span);
+    let mut said = Said(arguments.rest());
+    let written = write_forms(&mut said, typed);
+    Ok(Answer::from(written.is_ok() && said.0.is_empty()))
 }

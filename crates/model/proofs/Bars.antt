@@ -1,9 +1,9 @@
 -- Which rule a region's bar comes from, as computed examples: for each region the rule plus one (0 for none), and its ppm. Which is due was
 -- worked out by hand from document 02. Assumes nothing.
+use Rattle.std.specs.Prelude.{None}
 use Prim.Native.Nat.{ℕ}
 use mathlib.Core.Path.{◌≡◌, refl}
 use mathlib.Core.List.{List, [], ◌∷◌}
-use Rattle.model.specs.declared.SheetName.{SheetName}
 use Rattle.model.specs.declared.CfRule.{CfRule}
 use Rattle.model.specs.declared.Rule.{Rule}
 use Rattle.model.specs.Job.{Job}
@@ -84,7 +84,7 @@ stopping_bar = refl
 -- a deferred earlier rule with stop-if-true stops nothing: the mark on the first region, equal to the cell at its right, is dropped, since
 -- the second has no such cell
 deferred_stop : bars (job_of (number 0 0 (whole 1) ∷ number 0 1 (whole 1) ∷ number 1 0 (whole 2) ∷ []) (regions 2)
-    (stopping (rule (rows 2) (equal_to (relative SheetName.This 0 1))) ∷ bar 2 ∷ []) 0)
+    (stopping (rule (rows 2) (equal_to (relative None 0 1))) ∷ bar 2 ∷ []) 0)
     ≡ (2 ∷ 2 ∷ []) ∷ (0 ∷ 1_000_000 ∷ []) ∷ []
 unfolding jobs samples
 deferred_stop = refl

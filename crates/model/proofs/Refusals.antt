@@ -1,12 +1,12 @@
 -- The refusals 1 to 6 of document 01 as computed examples: jobs that are turned back ahead of any charge, with place, count S = 5 and
 -- actual in full, the neighbours that are not, and which of two refusals comes first. Assumes nothing.
+use Rattle.std.specs.Prelude.{Some}
 use Prim.Native.Nat.{ℕ, ◌-◌, ◌^◌}
 use mathlib.Core.Path.{◌≡◌, refl}
 use mathlib.Core.Bool.{false}
 use mathlib.Core.List.{List, [], ◌∷◌, map}
 use lib.ListN.{replicate}
 use Rattle.model.specs.declared.CellCoordinate.{CellCoordinate}
-use Rattle.model.specs.declared.SheetName.{SheetName}
 use Rattle.model.specs.declared.ConditionalOperand.{ConditionalOperand}
 use Rattle.model.specs.declared.DvOp.{DvOp}
 use Rattle.model.specs.declared.CfRule.{CfRule}
@@ -172,10 +172,10 @@ abbrev named : ℕ → List Rule → Result
 named len rs = decided_of (job_in sample_pool (span 10 len) [] [] (all_of rs) 5)
 
 abbrev lost : ConditionalOperand
-lost = relative (SheetName.Named (span 9 2)) 0 0
+lost = relative (Some (span 9 2)) 0 0
 
 abbrev sound : Rule
-sound = rule (rows 1) (equal_to (relative (SheetName.Named (span 9 1)) 0 0))
+sound = rule (rows 1) (equal_to (relative (Some (span 9 1)) 0 0))
 
 abbrev within : DvOp → ConditionalOperand → Rule
 within op second = rule (rows 1) (CfRule.CellIs op (literal 1) second red)

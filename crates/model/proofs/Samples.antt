@@ -1,5 +1,6 @@
 -- Short builders for computed examples: cells, regions, rules, whole jobs, and what is read off a result.
 -- The pool of `job_of` holds the texts named here, and its sheet is named `S`. Assumes nothing.
+use Rattle.std.specs.Prelude.{Some, None}
 use Prim.Native.Nat.{ℕ, zero, suc, ◌-◌, ◌^◌}
 use mathlib.Core.Bool.{true, false}
 use mathlib.Core.List.{List, [], ◌∷◌, map}
@@ -10,12 +11,11 @@ use Rattle.model.specs.declared.Span.{Span}
 use Rattle.model.specs.declared.CellCoordinate.{CellCoordinate}
 use Rattle.model.specs.declared.Range.{Range}
 use Rattle.model.specs.declared.Rgb.{Rgb}
-use Rattle.model.specs.declared.SheetName.{SheetName}
+use Rattle.model.specs.Options.{SheetName}
 use Rattle.model.specs.declared.ConditionalOperand.{ConditionalOperand}
 use Rattle.model.specs.declared.DvOp.{DvOp}
 use Rattle.model.specs.declared.ConditionalComparison.{ConditionalComparison}
 use Rattle.model.specs.declared.CfRule.{CfRule}
-use Rattle.model.specs.declared.Priority.{Priority}
 use Rattle.model.specs.declared.Rule.{Rule}
 use Rattle.model.specs.declared.Rules.{Rules}
 use Rattle.model.specs.Run.{Mark, RegionState}
@@ -126,10 +126,10 @@ blue = rgb 0 0 255
 
 -- without a priority and a stop, not imported
 unfoldable pub rule : Range → CfRule → Rule
-rule r kind = record { range = r; priority = Priority.Missing; stop = false; imported = false; kind = kind }
+rule r kind = record { range = r; priority = None; stop = false; imported = false; kind = kind }
 
 unfoldable pub prior : ℕ → Rule → Rule
-prior p r = record { range = r.range; priority = Priority.Written p; stop = r.stop; imported = r.imported; kind = r.kind }
+prior p r = record { range = r.range; priority = Some p; stop = r.stop; imported = r.imported; kind = r.kind }
 
 unfoldable pub stopping : Rule → Rule
 stopping r = record { range = r.range; priority = r.priority; stop = true; imported = r.imported; kind = r.kind }

@@ -1,11 +1,11 @@
 -- Traps for the porter in the rules over the regions, as computed examples: charges, stops, bars, priorities and rules that are given up.
 -- `tally` is count, marks, deferred and simplified. Assumes nothing.
+use Rattle.std.specs.Prelude.{None}
 use Prim.Native.Nat.{ℕ}
 use mathlib.Core.Path.{◌≡◌, refl}
 use mathlib.Core.Bool.{false}
 use mathlib.Core.List.{List, [], ◌∷◌, map}
 use lib.ListN.{replicate}
-use Rattle.model.specs.declared.SheetName.{SheetName}
 use Rattle.model.specs.declared.ConditionalOperand.{ConditionalOperand}
 use Rattle.model.specs.declared.CfRule.{CfRule}
 use Rattle.model.specs.declared.Rule.{Rule}
@@ -29,7 +29,7 @@ holds n = rule (rows 3) (equal_to (literal n))
 
 -- the cell to the right of the region
 abbrev right : ConditionalOperand
-right = relative SheetName.This 0 1
+right = relative None 0 1
 
 -- a rule for each kind of mark: fill, imported style, bar, bar with imported style, and an imported scale
 abbrev all_kinds : List Rule

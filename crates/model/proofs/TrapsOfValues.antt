@@ -1,12 +1,13 @@
 -- Traps for the porter in operands, references, averages, ranks and duplicates, as computed examples.
 -- `tally` is count, marks, deferred and simplified. Assumes nothing.
+use Rattle.std.specs.Prelude.{Some, None}
 use Prim.Native.Nat.{ℕ}
 use mathlib.Core.Path.{◌≡◌, refl}
 use mathlib.Core.Bool.{Bool, true, false}
 use mathlib.Core.List.{List, [], ◌∷◌, ◌++◌, map}
 use lib.ListN.{replicate}
 use Rattle.model.specs.declared.Range.{Range}
-use Rattle.model.specs.declared.SheetName.{SheetName}
+use Rattle.model.specs.Options.{SheetName}
 use Rattle.model.specs.declared.ConditionalOperand.{ConditionalOperand}
 use Rattle.model.specs.declared.DvOp.{DvOp}
 use Rattle.model.specs.declared.CfRule.{CfRule}
@@ -58,34 +59,34 @@ between_ends = refl
 
 -- a name by its place in the pool
 abbrev named : ℕ → ℕ → SheetName
-named at len = SheetName.Named (span at len)
+named at len = Some (span at len)
 
 -- an absolute axis off the grid is no refusal: there is no cell, and the rule defers at its first region
 absolute_off_grid : map (λ operand. tally (over (1 ∷ 2 ∷ []) (equal_to operand)))
-    (absolute SheetName.This 4_294_967_295 0 ∷ absolute SheetName.This 0 65_535 ∷ []) ≡ replicate 2 (1 ∷ 0 ∷ 1 ∷ 0 ∷ [])
+    (absolute None 4_294_967_295 0 ∷ absolute None 0 65_535 ∷ []) ≡ replicate 2 (1 ∷ 0 ∷ 1 ∷ 0 ∷ [])
 unfolding jobs samples
 absolute_off_grid = refl
 
 -- an absolute reference means one cell from every region
-absolute_stays : mark_regions (over (1 ∷ 1 ∷ 2 ∷ []) (equal_to (absolute SheetName.This 0 0))) ≡ 0 ∷ 1 ∷ []
+absolute_stays : mark_regions (over (1 ∷ 1 ∷ 2 ∷ []) (equal_to (absolute None 0 0))) ≡ 0 ∷ 1 ∷ []
 unfolding jobs samples
 absolute_stays = refl
 
 -- a relative one moves with the region, from the range's first cell: 1 below is compared with 1 above, and then 2 with 1
 relative_moves : mark_regions (
-    job_of (down (1 ∷ 1 ∷ 2 ∷ [])) (regions 3) (rule (range 1 0 2 0) (equal_to (relative SheetName.This 0 0)) ∷ []) 0) ≡ 1 ∷ []
+    job_of (down (1 ∷ 1 ∷ 2 ∷ [])) (regions 3) (rule (range 1 0 2 0) (equal_to (relative None 0 0)) ∷ []) 0) ≡ 1 ∷ []
 unfolding jobs samples
 relative_moves = refl
 
 -- past the grid's last row there is no cell: region 0 means that row, and region 1 the one after it
 relative_past_grid : tally (job_of (down (1 ∷ 1 ∷ []) ++ number 1_048_575 0 (whole 1) ∷ []) (regions 3)
-    (rule (rows 3) (equal_to (relative SheetName.This 1_048_575 0)) ∷ []) 0) ≡ 2 ∷ 0 ∷ 1 ∷ 0 ∷ []
+    (rule (rows 3) (equal_to (relative None 1_048_575 0)) ∷ []) 0) ≡ 2 ∷ 0 ∷ 1 ∷ 0 ∷ []
 unfolding jobs samples
 relative_past_grid = refl
 
 -- the sheet is `S`: `S` and `s` mean it, `Ab` and the empty name do not, and a reference without a name does
 sheet_names : map (λ name. tally (over (1 ∷ []) (equal_to (absolute name 0 0))))
-    (named 0 1 ∷ named 1 1 ∷ SheetName.This ∷ named 2 2 ∷ named 0 0 ∷ [])
+    (named 0 1 ∷ named 1 1 ∷ None ∷ named 2 2 ∷ named 0 0 ∷ [])
     ≡ replicate 3 (3 ∷ 1 ∷ 0 ∷ 0 ∷ []) ++ replicate 2 (1 ∷ 0 ∷ 1 ∷ 0 ∷ [])
 unfolding jobs samples
 sheet_names = refl

@@ -1,8 +1,8 @@
 -- Comparison: the eight operators of a cell-is rule and the six of an expression, by IEEE 754 (document 01, 'Comparison').
 -- Assumes nothing.
-use Rattle.std.specs.Prelude.{Bool, true, false, ◌&&◌, ◌||◌, Float}
+use Rattle.std.specs.Prelude.{Bool, true, false, ◌&&◌, ◌||◌, Float, Some, None}
 use Rattle.std.specs.Float.Ieee.{lt, le, eq, ne}
-use Rattle.model.specs.declared.Reading.{Reading}
+use Rattle.model.specs.Options.{Reading}
 use Rattle.model.specs.declared.DvOp.{DvOp}
 use Rattle.model.specs.declared.ConditionalComparison.{ConditionalComparison}
 
@@ -18,12 +18,12 @@ uses_second DvOp.LessThanOrEqual = false
 
 -- both ends included
 unfoldable pub between : Float → Float → Reading → Bool
-between value first (Reading.Number second) = le first value && le value second
-between value first Reading.Nothing = false
+between value first (Some second) = le first value && le value second
+between value first None = false
 
 unfoldable pub not_between : Float → Float → Reading → Bool
-not_between value first (Reading.Number second) = lt value first || lt second value
-not_between value first Reading.Nothing = false
+not_between value first (Some second) = lt value first || lt second value
+not_between value first None = false
 
 -- compare_conditional
 unfoldable pub compare_conditional : Float → DvOp → Float → Reading → Bool

@@ -1,9 +1,9 @@
 -- A job as it is lent: its columns, the checks 1 to 6 in their order, and its result (document 01, 'The lent sheet', 'Turned back').
 -- Assumes nothing.
-use Rattle.std.specs.Prelude.{ℕ, zero, suc, ◌+◌, ◌-◌, min, Bool, false, cond, not, ◌&&◌, ◌||◌, List, [], ◌∷◌, ltb, eqb, length, take, get_or}
+use Rattle.std.specs.Prelude.{ℕ, zero, suc, ◌+◌, ◌-◌, min, Bool, false, cond, not, ◌&&◌, ◌||◌, List, [], ◌∷◌, ltb, eqb, length, take, get_or, Some, None}
 use Rattle.std.proofs.Math.Option.{Option, none, some}
 use Rattle.model.specs.declared.Span.{Span}
-use Rattle.model.specs.declared.SheetName.{SheetName}
+use Rattle.model.specs.Options.{SheetName}
 use Rattle.model.specs.declared.ConditionalOperand.{ConditionalOperand}
 use Rattle.model.specs.declared.CfRule.{CfRule}
 use Rattle.model.specs.declared.Rule.{Rule}
@@ -80,8 +80,8 @@ unfoldable pub bad_region_at : List ℕ → List ℕ → ℕ → Bool
 bad_region_at rows cols i = off_grid (get_or rows i 0) (get_or cols i 0)
 
 unfoldable pub bad_name : List ℕ → SheetName → Bool
-bad_name pool SheetName.This = false
-bad_name pool (SheetName.Named t) = outside pool t
+bad_name pool None = false
+bad_name pool (Some t) = outside pool t
 
 unfoldable pub bad_operand : List ℕ → ConditionalOperand → Bool
 bad_operand pool (ConditionalOperand.Literal x) = false

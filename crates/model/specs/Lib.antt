@@ -1,7 +1,9 @@
+pub mod Options
 pub mod Sheet
 pub mod Readings
 pub mod References
 pub mod Comparison
+pub mod Numbers
 pub mod Split
 pub mod Ratio
 pub mod Sorting
@@ -10,5 +12,6 @@ pub mod Rule
 pub mod Run
 pub mod Answer
 pub mod Job
+pub mod Lent
 pub mod Columns
 pub mod WorkedValues

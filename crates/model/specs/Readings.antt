@@ -1,6 +1,6 @@
 -- Readings: the number that a cell has, and the key by which duplicates are told (document 01, 'Readings').
 -- Assumes nothing.
-use Rattle.std.specs.Prelude.{ℕ, ◌+◌, ◌^◌, Bool, true, false, cond, not, ◌&&◌, List, [], ◌∷◌, map, leb, ltb, eqb, Float}
+use Rattle.std.specs.Prelude.{ℕ, ◌+◌, ◌^◌, Bool, true, false, cond, not, ◌&&◌, List, [], ◌∷◌, map, leb, ltb, eqb, Float, Some, None}
 use Rattle.std.specs.Bool.{beq}
 use Rattle.std.proofs.Math.Option.{Option, none, some}
 use Rattle.std.specs.Float.{nan, inf, fin, binary64}
@@ -8,8 +8,8 @@ use Rattle.std.specs.Float.Ieee.{to_bits}
 use Rattle.model.specs.declared.Cell.{Cell}
 use Rattle.model.specs.declared.CellCoordinate.{CellCoordinate}
 use Rattle.model.specs.declared.CellValue.{CellValue}
-use Rattle.model.specs.declared.Reading.{Reading}
-use Rattle.model.specs.declared.ConditionalValueKey.{ConditionalValueKey as Key}
+use Rattle.model.specs.Options.{Reading, Key}
+use Rattle.model.specs.declared.ConditionalValueKey.{ConditionalValueKey}
 use Rattle.model.specs.Sheet.{CellAt, text_at, cell_at}
 
 -- neither not-a-number nor infinite
@@ -25,17 +25,17 @@ max_wraps = 64
 -- ---- numbers
 
 unfoldable pub numeric_value : CellValue → Reading
-numeric_value (CellValue.Number x) = cond (finite x) (Reading.Number x) Reading.Nothing
-numeric_value (CellValue.Date x) = cond (finite x) (Reading.Number x) Reading.Nothing
-numeric_value (CellValue.Text t) = Reading.Nothing
-numeric_value (CellValue.Bool b) = Reading.Nothing
-numeric_value CellValue.Error = Reading.Nothing
+numeric_value (CellValue.Number x) = cond (finite x) (Some x) None
+numeric_value (CellValue.Date x) = cond (finite x) (Some x) None
+numeric_value (CellValue.Text t) = None
+numeric_value (CellValue.Bool b) = None
+numeric_value CellValue.Error = None
 
 unfoldable pub numeric_cell_value : Cell → Reading
-numeric_cell_value c = cond (leb c.wraps max_wraps) (numeric_value c.value) Reading.Nothing
+numeric_cell_value c = cond (leb c.wraps max_wraps) (numeric_value c.value) None
 
 abbrev pub numeric_of : Option Cell → Reading
-numeric_of none = Reading.Nothing
+numeric_of none = None
 numeric_of (some c) = numeric_cell_value c
 
 -- the number at a coordinate, nothing where it is blank
@@ -74,39 +74,39 @@ unfoldable pub plain_text : List ℕ → Bool
 plain_text bs = ascii bs && every (λ b. not (eqb b 42) && not (eqb b 63)) bs
 
 unfoldable pub key_of_value : List ℕ → CellValue → Key
-key_of_value pool (CellValue.Number x) = cond (finite x) (Key.Number (key_bits x)) Key.Nothing
-key_of_value pool (CellValue.Date x) = cond (finite x) (Key.Number (key_bits x)) Key.Nothing
-key_of_value pool (CellValue.Text t) = cond (plain_text (text_at pool t)) (Key.Text t) Key.Nothing
-key_of_value pool (CellValue.Bool b) = Key.Bool b
-key_of_value pool CellValue.Error = Key.Nothing
+key_of_value pool (CellValue.Number x) = cond (finite x) (Some (ConditionalValueKey.Number (key_bits x))) None
+key_of_value pool (CellValue.Date x) = cond (finite x) (Some (ConditionalValueKey.Number (key_bits x))) None
+key_of_value pool (CellValue.Text t) = cond (plain_text (text_at pool t)) (Some (ConditionalValueKey.Text t)) None
+key_of_value pool (CellValue.Bool b) = Some (ConditionalValueKey.Bool b)
+key_of_value pool CellValue.Error = None
 
 unfoldable pub conditional_value_key : List ℕ → Cell → Key
-conditional_value_key pool c = cond (leb c.wraps max_wraps) (key_of_value pool c.value) Key.Nothing
+conditional_value_key pool c = cond (leb c.wraps max_wraps) (key_of_value pool c.value) None
 
 -- two keys are the same: numbers by their bits, texts in lower case, bools; nothing is the same as no key
 unfoldable pub same_key : List ℕ → Key → Key → Bool
-same_key pool (Key.Number a) (Key.Number b) = eqb a b
-same_key pool (Key.Number a) (Key.Text t) = false
-same_key pool (Key.Number a) (Key.Bool b) = false
-same_key pool (Key.Number a) Key.Nothing = false
-same_key pool (Key.Text s) (Key.Number b) = false
-same_key pool (Key.Text s) (Key.Text t) = same_letters (text_at pool s) (text_at pool t)
-same_key pool (Key.Text s) (Key.Bool b) = false
-same_key pool (Key.Text s) Key.Nothing = false
-same_key pool (Key.Bool a) (Key.Number b) = false
-same_key pool (Key.Bool a) (Key.Text t) = false
-same_key pool (Key.Bool a) (Key.Bool b) = beq a b
-same_key pool (Key.Bool a) Key.Nothing = false
-same_key pool Key.Nothing key = false
+same_key pool (Some (ConditionalValueKey.Number a)) (Some (ConditionalValueKey.Number b)) = eqb a b
+same_key pool (Some (ConditionalValueKey.Number a)) (Some (ConditionalValueKey.Text t)) = false
+same_key pool (Some (ConditionalValueKey.Number a)) (Some (ConditionalValueKey.Bool b)) = false
+same_key pool (Some (ConditionalValueKey.Number a)) None = false
+same_key pool (Some (ConditionalValueKey.Text s)) (Some (ConditionalValueKey.Number b)) = false
+same_key pool (Some (ConditionalValueKey.Text s)) (Some (ConditionalValueKey.Text t)) = same_letters (text_at pool s) (text_at pool t)
+same_key pool (Some (ConditionalValueKey.Text s)) (Some (ConditionalValueKey.Bool b)) = false
+same_key pool (Some (ConditionalValueKey.Text s)) None = false
+same_key pool (Some (ConditionalValueKey.Bool a)) (Some (ConditionalValueKey.Number b)) = false
+same_key pool (Some (ConditionalValueKey.Bool a)) (Some (ConditionalValueKey.Text t)) = false
+same_key pool (Some (ConditionalValueKey.Bool a)) (Some (ConditionalValueKey.Bool b)) = beq a b
+same_key pool (Some (ConditionalValueKey.Bool a)) None = false
+same_key pool None key = false
 
 unfoldable pub has_key : Key → Bool
-has_key (Key.Number a) = true
-has_key (Key.Text t) = true
-has_key (Key.Bool b) = true
-has_key Key.Nothing = false
+has_key (Some (ConditionalValueKey.Number a)) = true
+has_key (Some (ConditionalValueKey.Text t)) = true
+has_key (Some (ConditionalValueKey.Bool b)) = true
+has_key None = false
 
 abbrev pub key_of : List ℕ → Option Cell → Key
-key_of pool none = Key.Nothing
+key_of pool none = None
 key_of pool (some c) = conditional_value_key pool c
 
 -- the key at a coordinate, nothing where it is blank

@@ -1,12 +1,10 @@
 -- One rule: the cells of its range, what it charges ahead of the regions, what it comes to, and what it says of a region in range
 -- (document 01, 'Rules'). No limit is known here. Assumes nothing.
-use Rattle.std.specs.Prelude.{ℕ, zero, suc, ◌+◌, ◌-◌, Bool, true, false, cond, ◌&&◌, ◌||◌, List, [], ◌∷◌, ltb, eqb, length, replicate, Float}
+use Rattle.std.specs.Prelude.{ℕ, zero, suc, ◌+◌, ◌-◌, Bool, true, false, cond, ◌&&◌, ◌||◌, List, [], ◌∷◌, ltb, eqb, length, replicate, Float, Some, None}
 use Rattle.std.specs.Float.Ieee.{lt, le}
 use Rattle.charging.specs.Charge.{Charge, one}
-use Rattle.charging.specs.Charge as Charge
 use Rattle.model.specs.declared.CellCoordinate.{CellCoordinate}
-use Rattle.model.specs.declared.ConditionalValueKey.{ConditionalValueKey as Key}
-use Rattle.model.specs.declared.Reading.{Reading}
+use Rattle.model.specs.Options.{Key, Reading}
 use Rattle.model.specs.declared.Range.{Range}
 use Rattle.model.specs.declared.Rgb.{Rgb}
 use Rattle.model.specs.declared.CfRule.{CfRule}
@@ -29,8 +27,8 @@ cells_in r [] = []
 cells_in r (c ∷ cs) = let later = cells_in r cs in cond (in_range r c.at) (c ∷ later) later
 
 abbrev pub with_number : Reading → List Float → List Float
-with_number (Reading.Number x) xs = x ∷ xs
-with_number Reading.Nothing xs = xs
+with_number (Some x) xs = x ∷ xs
+with_number None xs = xs
 
 unfoldable pub numbers : List CellAt → List Float
 numbers [] = []
@@ -102,8 +100,8 @@ rank (suc n) bottom percent fill (x ∷ xs) =
 
 -- a sum that is not finite defers
 unfoldable pub against : Bool → Rgb → Reading → Plan
-against below fill (Reading.Number mean) = Plan.Tested (Test.AboveAverage below mean fill)
-against below fill Reading.Nothing = Plan.Deferred
+against below fill (Some mean) = Plan.Tested (Test.AboveAverage below mean fill)
+against below fill None = Plan.Deferred
 
 unfoldable pub mean : Bool → Rgb → List Float → Plan
 mean below fill [] = Plan.Skipped
@@ -175,19 +173,19 @@ filled_if met imported fill = cond met (filled imported 0 fill) Outcome.Passed
 
 -- a cell without a number is passed over
 unfoldable pub on_value : Reading → (Float → Outcome) → Outcome
-on_value (Reading.Number x) say = say x
-on_value Reading.Nothing say = Outcome.Passed
+on_value (Some x) say = say x
+on_value None say = Outcome.Passed
 
 -- an operand that reads to no number leaves the rule unresolved
 unfoldable pub on_operand : Reading → (Float → Outcome) → Outcome
-on_operand (Reading.Number x) say = say x
-on_operand Reading.Nothing say = Outcome.Unresolved
+on_operand (Some x) say = say x
+on_operand None say = Outcome.Unresolved
 
 -- the second operand, if the operator uses it
 unfoldable pub on_second : Bool → Reading → (Reading → Outcome) → Outcome
-on_second true (Reading.Number y) say = say (Reading.Number y)
-on_second true Reading.Nothing say = Outcome.Unresolved
-on_second false y say = say Reading.Nothing
+on_second true (Some y) say = say (Some y)
+on_second true None say = Outcome.Unresolved
+on_second false y say = say None
 
 unfoldable pub verdict : Sheet → Rule → CellCoordinate → Test → Outcome
 verdict s r at (Test.CellIs op first second fill) =

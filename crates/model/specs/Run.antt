@@ -1,9 +1,9 @@
 -- The rules one after the other over the regions: charges, marks, stopped regions and bars, and the order of the rules
 -- (document 01, 'Rules'). A run knows no limit and no end of the mark space. Assumes nothing.
-use Rattle.std.specs.Prelude.{ℕ, suc, ◌+◌, Bool, true, false, cond, ◌&&◌, ◌||◌, List, [], ◌∷◌, ◌++◌, leb, ltb, eqb, length, replicate}
+use Rattle.std.specs.Prelude.{ℕ, suc, ◌+◌, Bool, true, false, cond, ◌&&◌, ◌||◌, List, [], ◌∷◌, ◌++◌, leb, ltb, eqb, length, replicate, Some, None}
 use Rattle.charging.specs.Charge.{Charge, one}
 use Rattle.model.specs.declared.CellCoordinate.{CellCoordinate}
-use Rattle.model.specs.declared.Priority.{Priority}
+use Rattle.model.specs.Options.{Priority}
 use Rattle.model.specs.declared.Rule.{Rule}
 use Rattle.model.specs.declared.Test.{Test}
 use Rattle.model.specs.declared.Plan.{Plan}
@@ -147,8 +147,8 @@ run_from s (i ∷ is) states = let a = step s i states in followed_by a (run_fro
 
 -- a written priority, or the index + 1
 unfoldable pub precedence_of : ℕ → Priority → ℕ
-precedence_of index (Priority.Written p) = p
-precedence_of index Priority.Missing = suc index
+precedence_of index (Some p) = p
+precedence_of index None = suc index
 
 abbrev pub precedence : IndexedRule → ℕ
 precedence i = precedence_of i.index i.rule.priority

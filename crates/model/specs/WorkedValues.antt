@@ -1,15 +1,11 @@
 -- The worked values P1 to P11 of document 01 as one table: what the definitions give, and what the paper says.
 -- Each result stands as a list of numbers. Assumes nothing.
-use Rattle.std.specs.Prelude.{ℕ, true, false, cond, List, [], ◌∷◌, ◌++◌, pos, Float}
+use Rattle.std.specs.Prelude.{ℕ, true, false, cond, List, [], ◌∷◌, ◌++◌, pos, Float, Some, None}
 use Rattle.std.specs.Float.{binary64}
 use Rattle.std.specs.Float.Ieee.{of_bits, to_bits, of_int}
 use Rattle.model.specs.declared.CellValue.{CellValue}
-use Rattle.model.specs.declared.Reading.{Reading}
-use Rattle.model.specs.declared.ConditionalValueKey.{ConditionalValueKey}
-use Rattle.model.specs.declared.Axis.{Axis}
-use Rattle.model.specs.declared.Split.{Split}
+use Rattle.model.specs.Options.{Reading, Axis, Split, Key}
 use Rattle.model.specs.declared.CfRule.{CfRule}
-use Rattle.model.specs.declared.Priority.{Priority}
 use Rattle.model.specs.Sheet.{max_row}
 use Rattle.model.specs.Readings.{numeric_cell_value, conditional_value_key, same_key}
 use Rattle.model.specs.References.{offset_axis}
@@ -62,7 +58,7 @@ tiny_job =
         records =
             record {
               range = record { top = 0; left = 0; bottom = 1; right = 0 };
-              priority = Priority.Missing;
+              priority = None;
               stop = false;
               imported = false;
               kind = CfRule.ColorScale3 (record { red = 255; green = 0; blue = 0 }) (record { red = 0; green = 255; blue = 0 })
@@ -78,8 +74,8 @@ tiny_job =
 
 -- 1 and the number's bit pattern, or 0
 unfoldable pub reading : Reading → List ℕ
-reading (Reading.Number x) = 1 ∷ to_bits binary64 x ∷ []
-reading Reading.Nothing = 0 ∷ []
+reading (Some x) = 1 ∷ to_bits binary64 x ∷ []
+reading None = 0 ∷ []
 
 -- what a cell reads as that holds 1 within so many wraps
 unfoldable pub wrapped : ℕ → List ℕ
@@ -87,13 +83,13 @@ wrapped wraps = reading (numeric_cell_value (record { value = CellValue.Number (
 
 -- 1 and the value, or 0
 unfoldable pub on_axis : Axis → List ℕ
-on_axis (Axis.At value) = 1 ∷ value ∷ []
-on_axis Axis.Outside = 0 ∷ []
+on_axis (Some value) = 1 ∷ value ∷ []
+on_axis None = 0 ∷ []
 
 -- the operator's position and width, or none
 unfoldable pub place : Split → List ℕ
-place (Split.At op at width) = at ∷ width ∷ []
-place Split.Nothing = []
+place (Some s) = s.at ∷ s.width ∷ []
+place None = []
 
 -- position, width and right part
 unfoldable pub parts : List ℕ → List ℕ
@@ -110,7 +106,7 @@ tiny_colours =
 unfoldable pub key_pool : List ℕ
 key_pool = 65 ∷ 98 ∷ 97 ∷ 66 ∷ 49 ∷ []
 
-unfoldable pub key_of : CellValue → ConditionalValueKey
+unfoldable pub key_of : CellValue → Key
 key_of v = conditional_value_key key_pool (record { value = v; wraps = 0 })
 
 -- 1 if two values have the same key, else 0

@@ -2,6 +2,8 @@
 // Names are those of conditional.rs where it has them.
 #![tactic(auto)]
 
+use charging::ChargeError;
+
 // ---- the sheet
 
 // A text of the pool: `len` bytes from `at`.
@@ -33,20 +35,12 @@ pub struct Cell {
     pub wraps: u8,
 }
 
-// `Option<f64>`: what a cell or an operand reads as.
-#[derive(Clone, Copy)]
-pub enum Reading {
-    Number(f64),
-    Nothing,
-}
-
-// `Option<ConditionalValueKey>`. A text stays where it is in the pool; its letters count without regard to case.
+// A text stays where it is in the pool; its letters count without regard to case.
 #[derive(Clone, Copy)]
 pub enum ConditionalValueKey {
     Number(u64),
     Text(Span),
     Bool(bool),
-    Nothing,
 }
 
 // ---- the rules
@@ -68,34 +62,14 @@ pub struct Range {
     pub right: u16,
 }
 
-// The sheet that a reference names. No name means this sheet.
-#[derive(Clone, Copy)]
-pub enum SheetName {
-    This,
-    Named(Span),
-}
-
+// No sheet name means this sheet.
 #[derive(Clone, Copy)]
 pub struct A1Reference {
-    pub sheet: SheetName,
+    pub sheet: Option<Span>,
     pub row: u32,
     pub col: u16,
     pub row_absolute: bool,
     pub col_absolute: bool,
-}
-
-// `Option<u64>` of `offset_a1_axis`.
-#[derive(Clone, Copy)]
-pub enum Axis {
-    At(u32),
-    Outside,
-}
-
-// `Option<CellCoordinate>` of `conditional_reference_coordinate`.
-#[derive(Clone, Copy)]
-pub enum Referenced {
-    At(CellCoordinate),
-    Nowhere,
 }
 
 #[derive(Clone, Copy)]
@@ -127,15 +101,60 @@ pub enum ConditionalComparison {
     GreaterOrEqual,
 }
 
+// A number that no operator has.
+#[derive(Clone, Copy)]
+pub struct NoOperator;
+
+impl TryFrom<u64> for DvOp {
+    type Error = NoOperator;
+
+    ghost use Rattle.std.specs.Prelude.{◌≡◌};
+    ghost use Rattle.model.specs.Numbers.{dv_op_numbered};
+
+    ghost try_from_gives = { λ n r. r ≡ dv_op_numbered n };
+
+    fn try_from(number: u64) -> Result<DvOp, NoOperator> {
+        match number {
+            0 => Ok(DvOp::Between),
+            1 => Ok(DvOp::NotBetween),
+            2 => Ok(DvOp::Equal),
+            3 => Ok(DvOp::NotEqual),
+            4 => Ok(DvOp::GreaterThan),
+            5 => Ok(DvOp::LessThan),
+            6 => Ok(DvOp::GreaterThanOrEqual),
+            7 => Ok(DvOp::LessThanOrEqual),
+            _ => Err(NoOperator),
+        }
+    }
+}
+
+impl TryFrom<u64> for ConditionalComparison {
+    type Error = NoOperator;
+
+    ghost use Rattle.std.specs.Prelude.{◌≡◌};
+    ghost use Rattle.model.specs.Numbers.{comparison_numbered};
+
+    ghost try_from_gives = { λ n r. r ≡ comparison_numbered n };
+
+    fn try_from(number: u64) -> Result<ConditionalComparison, NoOperator> {
+        match number {
+            0 => Ok(ConditionalComparison::Equal),
+            1 => Ok(ConditionalComparison::NotEqual),
+            2 => Ok(ConditionalComparison::Less),
+            3 => Ok(ConditionalComparison::LessOrEqual),
+            4 => Ok(ConditionalComparison::Greater),
+            5 => Ok(ConditionalComparison::GreaterOrEqual),
+            _ => Err(NoOperator),
+        }
+    }
+}
+
 // Where a comparison is split: its operator, the operator's position and how many bytes it has.
 #[derive(Clone, Copy)]
-pub enum Split {
-    At {
-        op: ConditionalComparison,
-        at: usize,
-        width: usize,
-    },
-    Nothing,
+pub struct Split {
+    pub op: ConditionalComparison,
+    pub at: usize,
+    pub width: usize,
 }
 
 #[derive(Clone, Copy)]
@@ -181,15 +200,9 @@ pub enum CfRule {
 }
 
 #[derive(Clone, Copy)]
-pub enum Priority {
-    Written(u32),
-    Missing,
-}
-
-#[derive(Clone, Copy)]
 pub struct Rule {
     pub range: Range,
-    pub priority: Priority,
+    pub priority: Option<u32>,
     pub stop: bool,
     pub imported: bool,
     pub kind: CfRule,
@@ -200,6 +213,52 @@ pub struct Rule {
 pub struct Rules {
     pub records: [Rule; 64],
     pub number: usize,
+}
+
+impl Rules {
+    ghost use Rattle.std.specs.Prelude.{◌≡◌, take};
+
+    // All records where the number is larger than that of the records.
+    pub fn declared(&self) -> &[Rule]
+        ensures { result.now ≡ take self.now.number self.now.records }
+    {
+        match self.records.get(..self.number) {
+            Some(first) => first,
+            None => &self.records,
+        }
+    }
+}
+
+// ---- lent columns
+
+// The cells of a sheet, a column for each of their parts.
+#[derive(Clone, Copy)]
+pub struct LentCells<'a> {
+    pub rows: &'a [u32],
+    pub cols: &'a [u16],
+    pub kinds: &'a [u8],
+    pub wraps: &'a [u8],
+    pub nums: &'a [u64],
+    pub ats: &'a [u32],
+    pub lens: &'a [u32],
+}
+
+// The regions that may be marked.
+#[derive(Clone, Copy)]
+pub struct LentRegions<'a> {
+    pub rows: &'a [u32],
+    pub cols: &'a [u16],
+}
+
+// A job: its sheet, its rules and the evaluations before it.
+#[derive(Clone, Copy)]
+pub struct LentJob<'a> {
+    pub cells: LentCells<'a>,
+    pub regions: LentRegions<'a>,
+    pub pool: &'a [u8],
+    pub name: Span,
+    pub rules: &'a Rules,
+    pub start: u64,
 }
 
 // ---- what a rule comes to
@@ -299,54 +358,56 @@ pub enum Outcome {
 
 // ---- the answer
 
-// The answer of the call over lent columns. `Answer.antt` gives document 01's number and values for each case.
+// What an answered job comes to: the evaluations, the marks, and how many rules are deferred and simplified.
 #[derive(Clone, Copy)]
-pub enum Answer {
-    Answered {
-        count: u64,
-        marks: u64,
-        deferred: u64,
-        simplified: u64,
-    },
-    // 1
-    LengthsDiffer {
-        count: u64,
-    },
-    // 2
-    TooMany {
-        count: u64,
-    },
-    // 3
-    OutOfBounds {
-        place: u64,
-        count: u64,
-    },
-    // 4
-    NotRising {
-        place: u64,
-        count: u64,
-    },
-    // 5
-    NameOutside {
-        place: u64,
-        count: u64,
-    },
-    // 6
-    SpaceShort {
-        count: u64,
-    },
-    // 7
-    LimitExceeded {
-        count: u64,
-        actual: u64,
-    },
-    // 8
-    CoordinateOverflow {
-        count: u64,
-    },
-    // 9
-    MarksExceedSpace {
-        count: u64,
-        actual: u64,
-    },
+pub struct Answered {
+    pub count: u64,
+    pub marks: u64,
+    pub deferred: u64,
+    pub simplified: u64,
 }
+
+// Why a job is refused. `Answer.antt` gives document 01's number and values for each case.
+#[derive(Clone, Copy)]
+pub enum Refusal {
+    // 1
+    LengthsDiffer { count: u64 },
+    // 2
+    TooMany { count: u64 },
+    // 3
+    OutOfBounds { place: u64, count: u64 },
+    // 4
+    NotRising { place: u64, count: u64 },
+    // 5
+    NameOutside { place: u64, count: u64 },
+    // 6
+    SpaceShort { count: u64 },
+    // 7
+    LimitExceeded { count: u64, actual: u64 },
+    // 8
+    CoordinateOverflow { count: u64 },
+    // 9
+    MarksExceedSpace { count: u64, actual: u64 },
+}
+
+impl From<ChargeError> for Refusal {
+    ghost use Rattle.std.specs.Prelude.{◌≡◌};
+    ghost use Rattle.model.specs.Answer.{not_charged};
+
+    ghost from_gives = { λ e r. r ≡ not_charged e };
+
+    fn from(error: ChargeError) -> Refusal {
+        match error {
+            ChargeError::LimitExceeded(counter, actual) => Refusal::LimitExceeded {
+                count: counter.count,
+                actual,
+            },
+            ChargeError::CoordinateOverflow(counter) => Refusal::CoordinateOverflow {
+                count: counter.count,
+            },
+        }
+    }
+}
+
+// The answer of the call over lent columns.
+pub type Answer = Result<Answered, Refusal>;

@@ -1,5 +1,6 @@
 -- The walk computed: entries, comparisons and cells reached of small sheets that rise, what becomes of regions that do not, and tables one
 -- entry short, exact and longer. Assumes nothing.
+use Rattle.std.specs.Prelude.{Some, None}
 use Prim.Native.Nat.{ℕ}
 use mathlib.Core.Path.{◌≡◌, refl}
 use mathlib.Core.List.{List, [], ◌∷◌}
@@ -7,7 +8,7 @@ use Rattle.memory.specs.Memory.{all_or}
 use Rattle.model.specs.declared.CellCoordinate.{CellCoordinate}
 use Rattle.model.specs.Sheet.{same_coordinate}
 use Rattle.model.specs.Job.{rises}
-use Rattle.places.specs.declared.Walked.{Walked}
+use Rattle.places.specs.Places.{Walked}
 use Rattle.places.specs.Walk.{walk_of, passed, entry_here, comparisons_for, walk_from, walk, walked, table_of}
 use Rattle.places.specs.Reached.{count, any_of, reached}
 
@@ -76,14 +77,14 @@ falling = refl
 abbrev lent : ℕ → Walked × List ℕ
 lent room = (walked three three room, table_of three three room)
 
-one_short : lent 2 ≡ (Walked.Refused, 0 ∷ 0 ∷ [])
+one_short : lent 2 ≡ (None, 0 ∷ 0 ∷ [])
 unfolding computed
 one_short = refl
 
-exact : lent 3 ≡ (Walked.Compared 5, 1 ∷ 2 ∷ 3 ∷ [])
+exact : lent 3 ≡ (Some 5, 1 ∷ 2 ∷ 3 ∷ [])
 unfolding computed
 exact = refl
 
-longer : lent 5 ≡ (Walked.Compared 5, 1 ∷ 2 ∷ 3 ∷ 0 ∷ 0 ∷ [])
+longer : lent 5 ≡ (Some 5, 1 ∷ 2 ∷ 3 ∷ 0 ∷ 0 ∷ [])
 unfolding computed
 longer = refl

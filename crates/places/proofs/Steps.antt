@@ -10,22 +10,22 @@ use native.Mathlib.Omega.{arith}
 use lib.ListN.{length, replicate}
 use Rattle.model.specs.declared.CellCoordinate.{CellCoordinate}
 use Rattle.model.specs.Sheet.{same_coordinate}
-use Rattle.places.specs.declared.Side.{Side}
+use Rattle.std.specs.declared.cmp.Ordering.TheVariants.{Less, Equal, Greater}
 use Rattle.places.specs.Walk.{Walk, walk_of, before, side, passed, entry_here, comparisons_for, walk_from}
 
 -- ---- what a comparison tells
 
-before_told : (b s : Bool) → cond b Side.Before (cond s Side.At Side.After) ≡ Side.Before → b ≡ true
+before_told : (b s : Bool) → cond b Less (cond s Equal Greater) ≡ Less → b ≡ true
 before_told true s e = refl
 before_told false true e = cc
 before_told false false e = cc
 
-at_told : (b s : Bool) → cond b Side.Before (cond s Side.At Side.After) ≡ Side.At → (b ≡ false) × (s ≡ true)
+at_told : (b s : Bool) → cond b Less (cond s Equal Greater) ≡ Equal → (b ≡ false) × (s ≡ true)
 at_told true s e = (cc, cc)
 at_told false true e = (refl, refl)
 at_told false false e = (cc, cc)
 
-after_told : (b s : Bool) → cond b Side.Before (cond s Side.At Side.After) ≡ Side.After → (b ≡ false) × (s ≡ false)
+after_told : (b s : Bool) → cond b Less (cond s Equal Greater) ≡ Greater → (b ≡ false) × (s ≡ false)
 after_told true s e = (cc, cc)
 after_told false true e = (cc, cc)
 after_told false false e = (refl, refl)
@@ -57,15 +57,15 @@ module _ (i : ℕ) (c : CellCoordinate) (cs : List CellCoordinate) (r : CellCoor
   unfolding walk_from passed entry_here comparisons_for
   walk_enters e = rw (e, add-zero, one-add)
 
-  pub walk_before : side c r ≡ Side.Before → walk_from i (c ∷ cs) (r ∷ rs) ≡ passing (walk_from (suc i) cs (r ∷ rs))
+  pub walk_before : side c r ≡ Less → walk_from i (c ∷ cs) (r ∷ rs) ≡ passing (walk_from (suc i) cs (r ∷ rs))
   unfolding side
   walk_before e = walk_passes (before_told (before c r) (same_coordinate c r) e)
 
-  pub walk_at : side c r ≡ Side.At → walk_from i (c ∷ cs) (r ∷ rs) ≡ entering (suc i) (walk_from i (c ∷ cs) rs)
+  pub walk_at : side c r ≡ Equal → walk_from i (c ∷ cs) (r ∷ rs) ≡ entering (suc i) (walk_from i (c ∷ cs) rs)
   unfolding side
   walk_at e = let told = at_told (before c r) (same_coordinate c r) e in rw told.1 at (walk_enters told.0)
 
-  pub walk_after : side c r ≡ Side.After → walk_from i (c ∷ cs) (r ∷ rs) ≡ entering 0 (walk_from i (c ∷ cs) rs)
+  pub walk_after : side c r ≡ Greater → walk_from i (c ∷ cs) (r ∷ rs) ≡ entering 0 (walk_from i (c ∷ cs) rs)
   unfolding side
   walk_after e = let told = after_told (before c r) (same_coordinate c r) e in rw told.1 at (walk_enters told.0)
 

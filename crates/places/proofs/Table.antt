@@ -1,4 +1,5 @@
 -- What a walk over lent columns leaves, where the table is fit and where it is not. Assumes nothing.
+use Rattle.std.specs.Prelude.{Some, None}
 use Prim.Native.Nat.{ℕ, zero, suc, ◌-◌, ◌≤◌, ◌<◌}
 use mathlib.Core.Path.{◌≡◌, refl, ◌∙◌}
 use mathlib.Core.Bool.{Bool, true, false, ◌&&◌, false≢true}
@@ -13,7 +14,6 @@ use Rattle.memory.proofs.Laws.{all_fits, page_fits, page_refused}
 use Rattle.model.specs.Job.{first_fall}
 use Rattle.laws.proofs.Lengths.{regions_length}
 use Rattle.cells.specs.Columns.{coordinate_at, entry_at}
-use Rattle.places.specs.declared.Walked.{Walked}
 use Rattle.places.specs.Walk.{standing, walk, walk_fits, walked, table_of}
 use Rattle.places.proofs.Bounds.{walk_entries, blank}
 use Rattle.places.proofs.Finding.{walk_finds}
@@ -35,7 +35,7 @@ front_entry (x ∷ xs) n (suc i) = front_entry xs n i
 
 module _ (rows cols region_rows region_cols : List ℕ) (room : ℕ) where
   module _ (e : walk_fits (length rows) (length region_rows) room ≡ false) where
-    pub walked_refused : walked (standing rows cols) (standing region_rows region_cols) room ≡ Walked.Refused
+    pub walked_refused : walked (standing rows cols) (standing region_rows region_cols) room ≡ None
     unfolding walked
     walked_refused = rw (regions_length rows cols, regions_length region_rows region_cols, e)
 
@@ -45,7 +45,7 @@ module _ (rows cols region_rows region_cols : List ℕ) (room : ℕ) where
 
   module _ (e : walk_fits (length rows) (length region_rows) room ≡ true) where
     pub walked_compared : walked (standing rows cols) (standing region_rows region_cols) room
-        ≡ Walked.Compared (walk (standing rows cols) (standing region_rows region_cols)).comparisons
+        ≡ Some (walk (standing rows cols) (standing region_rows region_cols)).comparisons
     unfolding walked
     walked_compared = rw (regions_length rows cols, regions_length region_rows region_cols, e)
 

@@ -13,7 +13,8 @@ use Rattle.model.specs.declared.CellCoordinate.{CellCoordinate}
 use Rattle.model.specs.Sheet.{regions_from}
 use Rattle.laws.proofs.Lengths.{regions_length}
 use Rattle.cells.specs.Columns.{coordinate_at}
-use Rattle.places.specs.declared.Side.{Side}
+use Rattle.std.specs.declared.cmp.Ordering.{Ordering}
+use Rattle.std.specs.declared.cmp.Ordering.TheVariants.{Less, Equal, Greater}
 use Rattle.places.specs.Walk.{Walk, walk_of, side, walk_from, walk, standing}
 use Rattle.places.proofs.Steps.{passing, entering, walk_before, walk_at, walk_after, walk_no_cells, walk_no_regions}
 
@@ -40,22 +41,22 @@ module _ (rows cols region_rows region_cols : List ℕ) where
   abbrev walk_whole : Walk
   walk_whole = walk (standing rows cols) (standing region_rows region_cols)
 
-  abbrev side_at : ℕ → ℕ → Side
+  abbrev side_at : ℕ → ℕ → Ordering
   side_at i k = side (coordinate_at rows cols i) (coordinate_at region_rows region_cols k)
 
   module _ (i k : ℕ) where
     module _ (more-cells : i < length rows) (more-regions : k < length region_rows) where
-      left_before : side_at i k ≡ Side.Before → walk_left i k ≡ passing (walk_left (i + 1) k)
+      left_before : side_at i k ≡ Less → walk_left i k ≡ passing (walk_left (i + 1) k)
       left_before e =
           rw (one_left rows cols i more-cells, one_left region_rows region_cols k more-regions)
           (walk_before i _ _ _ _ e ∙ rw (add-one i))
 
-      left_at : side_at i k ≡ Side.At → walk_left i k ≡ entering (i + 1) (walk_left i (k + 1))
+      left_at : side_at i k ≡ Equal → walk_left i k ≡ entering (i + 1) (walk_left i (k + 1))
       left_at e =
           rw (one_left rows cols i more-cells, one_left region_rows region_cols k more-regions)
           (walk_at i _ _ _ _ e ∙ rw (add-one i))
 
-      left_after : side_at i k ≡ Side.After → walk_left i k ≡ entering 0 (walk_left i (k + 1))
+      left_after : side_at i k ≡ Greater → walk_left i k ≡ entering 0 (walk_left i (k + 1))
       left_after e =
           rw (one_left rows cols i more-cells, one_left region_rows region_cols k more-regions) (walk_after i _ _ _ _ e)
 
@@ -130,7 +131,7 @@ module _ {rows cols region_rows region_cols : List ℕ} {room : ℕ} where
         ap (set places k) (sym zero-there) ∙ set-get_or places k 0
 
     module _ (more-cells : i < length rows) (more-regions : k < length region_rows) where
-      pub walking_before : side_at rows cols region_rows region_cols i k ≡ Side.Before
+      pub walking_before : side_at rows cols region_rows region_cols i k ≡ Less
           → Walking rows cols region_rows region_cols room places (comparisons + 1) (i + 1) k
       walking_before s =
           let e = left_before rows cols region_rows region_cols i k more-cells more-regions s in
@@ -145,11 +146,11 @@ module _ {rows cols region_rows region_cols : List ℕ} {room : ℕ} where
           }
 
       module _ (fits : length region_rows ≤ room) where
-        pub walking_at : side_at rows cols region_rows region_cols i k ≡ Side.At
+        pub walking_at : side_at rows cols region_rows region_cols i k ≡ Equal
             → Walking rows cols region_rows region_cols room (set places k (i + 1)) (comparisons + 1) i (k + 1)
         walking_at s = entered (omega arith) (left_at rows cols region_rows region_cols i k more-cells more-regions s)
 
-        pub walking_after : side_at rows cols region_rows region_cols i k ≡ Side.After
+        pub walking_after : side_at rows cols region_rows region_cols i k ≡ Greater
             → Walking rows cols region_rows region_cols room places (comparisons + 1) i (k + 1)
         walking_after s =
             let h : k < room = omega arith in

@@ -1,2 +1,3 @@
+pub mod Places
 pub mod Walk
 pub mod Reached

@@ -1,13 +1,14 @@
 -- The walk over the cells and the regions of a sheet, each in the order of its columns (document 02, T-02): the walk stands at a cell; for
 -- the next region it goes forward over the cells that come before the region, and stays where it then is. What holds of columns that do
 -- not rise is said here too. Assumes nothing.
-use Rattle.std.specs.Prelude.{ℕ, suc, ◌+◌, Bool, cond, ◌&&◌, List, [], ◌∷◌, leb, length, drop}
+use Rattle.std.specs.Prelude.{ℕ, suc, ◌+◌, Bool, cond, ◌&&◌, List, [], ◌∷◌, leb, length, drop, Some, None}
 use Rattle.memory.specs.Memory.{page_of}
 use Rattle.model.specs.declared.CellCoordinate.{CellCoordinate}
 use Rattle.model.specs.Sheet.{same_coordinate, regions_from}
 use Rattle.model.specs.Job.{rises}
-use Rattle.places.specs.declared.Side.{Side}
-use Rattle.places.specs.declared.Walked.{Walked}
+use Rattle.std.specs.declared.cmp.Ordering.{Ordering}
+use Rattle.std.specs.declared.cmp.Ordering.TheVariants.{Less, Equal, Greater}
+use Rattle.places.specs.Places.{Walked}
 
 -- the coordinates that a column of rows and one of columns hold
 abbrev pub standing : List ℕ → List ℕ → List CellCoordinate
@@ -20,8 +21,8 @@ abbrev pub before : CellCoordinate → CellCoordinate → Bool
 before a b = rises a.row a.col b.row b.col
 
 -- one comparison: a cell comes before a region, stands at it, or comes after it
-unfoldable pub side : CellCoordinate → CellCoordinate → Side
-side cell region = cond (before cell region) Side.Before (cond (same_coordinate cell region) Side.At Side.After)
+unfoldable pub side : CellCoordinate → CellCoordinate → Ordering
+side cell region = cond (before cell region) Less (cond (same_coordinate cell region) Equal Greater)
 
 -- ---- the walk
 
@@ -68,7 +69,7 @@ walk_fits cells regions room = leb regions room && leb cells 65_535
 
 unfoldable pub walked : List CellCoordinate → List CellCoordinate → ℕ → Walked
 walked cells regions room =
-    cond (walk_fits (length cells) (length regions) room) (Walked.Compared (walk cells regions).comparisons) Walked.Refused
+    cond (walk_fits (length cells) (length regions) room) (Some (walk cells regions).comparisons) None
 
 -- all entries with zeros behind them, or zeros from end to end
 unfoldable pub table_of : List CellCoordinate → List CellCoordinate → ℕ → List ℕ

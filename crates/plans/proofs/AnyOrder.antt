@@ -1,51 +1,49 @@
 -- What a rule comes to by values in any order, in the code's steps: whether a number is told of them, and what is left to put in order.
 -- Assumes nothing.
+use Rattle.std.specs.Prelude.{Some, None}
 use Prim.Native.Nat.{ℕ}
 use mathlib.Core.Path.{◌≡◌, refl, ap}
 use mathlib.Core.Bool.{Bool, true, false, cond, not, ◌&&◌, and-false, true≢false, false≢true}
 use mathlib.Core.List.{List, [], ◌∷◌}
 use native.Mathlib.Omega.{arith}
-use types.Run.{OneOf, miss}
-use denote.Enum.Declared.{tag_of}
 use borrow.Author.Tests.{lt-ltb}
 use lib.ListN.{length}
 use lib.Ieee.{Float}
-use Rattle.model.specs.contracts.CfRule as CfRule-type
 use Rattle.model.specs.declared.CfRule.{CfRule}
 use Rattle.model.specs.declared.Plan.{Plan}
-use Rattle.model.specs.declared.Reading.{Reading}
+use Rattle.model.specs.Options.{Reading}
 use Rattle.model.specs.declared.Rgb.{Rgb}
 use Rattle.ranks.specs.Finite.{all_finite, if_finite}
-use Rattle.plans.specs.declared.Planned.{Planned}
+use Rattle.plans.specs.Plans.{Planned}
 use Rattle.plans.specs.Plans.{plan_of_values, orders_values, planned_of}
 use Rattle.plans.proofs.Cases.{rank_none, rank_zero}
 
 abbrev is_of : Planned → Bool
-is_of (Planned.Of p) = true
-is_of Planned.Unordered = false
+is_of (Some p) = true
+is_of None = false
 
 abbrev is_number : Reading → Bool
-is_number (Reading.Number x) = true
-is_number Reading.Nothing = false
+is_number (Some x) = true
+is_number None = false
 
 -- ---- by the number told of the values
 
 module _ (kind : CfRule) (xs : List Float) (v : Float) where
-  pub planned_told : (x : Float) → Reading.Number x ≡ if_finite xs v → planned_of kind xs ≡ Planned.Of (plan_of_values kind xs)
+  pub planned_told : (x : Float) → Some x ≡ if_finite xs v → planned_of kind xs ≡ Some (plan_of_values kind xs)
   unfolding planned_of if_finite
   planned_told x h = decided (all_finite xs) h
     where
-      decided : (b : Bool) → Reading.Number x ≡ cond b (Reading.Number v) Reading.Nothing
-          → cond (orders_values kind && not b) Planned.Unordered (Planned.Of (plan_of_values kind xs)) ≡ Planned.Of (plan_of_values kind xs)
+      decided : (b : Bool) → Some x ≡ cond b (Some v) None
+          → cond (orders_values kind && not b) None (Some (plan_of_values kind xs)) ≡ Some (plan_of_values kind xs)
       decided true e = rw (and-false (orders_values kind))
       decided false e = absurd (true≢false (ap is_number e))
 
-  pub planned_untold : orders_values kind ≡ true → Reading.Nothing ≡ if_finite xs v → planned_of kind xs ≡ Planned.Unordered
+  pub planned_untold : orders_values kind ≡ true → None ≡ if_finite xs v → planned_of kind xs ≡ None
   unfolding planned_of if_finite
   planned_untold o h = rw o (decided (all_finite xs) h)
     where
-      decided : (b : Bool) → Reading.Nothing ≡ cond b (Reading.Number v) Reading.Nothing
-          → cond (not b) Planned.Unordered (Planned.Of (plan_of_values kind xs)) ≡ Planned.Unordered
+      decided : (b : Bool) → None ≡ cond b (Some v) None
+          → cond (not b) None (Some (plan_of_values kind xs)) ≡ None
       decided true e = absurd (false≢true (ap is_number e))
       decided false e = refl
 
@@ -53,38 +51,38 @@ module _ (kind : CfRule) (xs : List Float) (v : Float) where
 
 module _ (bottom percent : Bool) (fill : Rgb) where
   pub planned_none : (number : ℕ) (xs : List Float) → length xs ≡ 0
-      → planned_of (CfRule.TopBottom number bottom percent fill) xs ≡ Planned.Of Plan.Skipped
+      → planned_of (CfRule.TopBottom number bottom percent fill) xs ≡ Some Plan.Skipped
   unfolding planned_of plan_of_values all_finite
   planned_none number [] h =
       rw (and-false (orders_values (CfRule.TopBottom number bottom percent fill)), rank_none bottom percent fill number [] h)
   planned_none number (x ∷ xs) h = absurd (omega arith)
 
-  pub planned_zero : (xs : List Float) → planned_of (CfRule.TopBottom 0 bottom percent fill) xs ≡ Planned.Of Plan.Skipped
+  pub planned_zero : (xs : List Float) → planned_of (CfRule.TopBottom 0 bottom percent fill) xs ≡ Some Plan.Skipped
   unfolding planned_of plan_of_values orders_values
-  planned_zero xs = ap Planned.Of (rank_zero bottom percent fill xs)
+  planned_zero xs = ap Some (rank_zero bottom percent fill xs)
 
 -- ---- what an answer tells
 
 module _ (kind : CfRule) (xs : List Float) where
   -- a plan given is that of the values
-  pub planned_is : (p : Plan) → Planned.Of p ≡ planned_of kind xs → p ≡ plan_of_values kind xs
+  pub planned_is : (p : Plan) → Some p ≡ planned_of kind xs → p ≡ plan_of_values kind xs
   unfolding planned_of
   planned_is p h = decided (orders_values kind && not (all_finite xs)) h
     where
       plan : Planned → Plan
-      plan (Planned.Of q) = q
-      plan Planned.Unordered = p
+      plan (Some q) = q
+      plan None = p
 
-      decided : (b : Bool) → Planned.Of p ≡ cond b Planned.Unordered (Planned.Of (plan_of_values kind xs)) → p ≡ plan_of_values kind xs
+      decided : (b : Bool) → Some p ≡ cond b None (Some (plan_of_values kind xs)) → p ≡ plan_of_values kind xs
       decided true e = absurd (true≢false (ap is_of e))
       decided false e = ap plan e
 
   -- without one the kind needs the values in order, and they are not all finite
-  pub unordered_is : Planned.Unordered ≡ planned_of kind xs → (orders_values kind ≡ true) × (all_finite xs ≡ false)
+  pub unordered_is : None ≡ planned_of kind xs → (orders_values kind ≡ true) × (all_finite xs ≡ false)
   unfolding planned_of
   unordered_is h = decided (orders_values kind) (all_finite xs) h
     where
-      decided : (o f : Bool) → Planned.Unordered ≡ cond (o && not f) Planned.Unordered (Planned.Of (plan_of_values kind xs))
+      decided : (o f : Bool) → None ≡ cond (o && not f) None (Some (plan_of_values kind xs))
           → (o ≡ true) × (f ≡ false)
       decided true false e = (refl, refl)
       decided true true e = absurd (false≢true (ap is_of e))
@@ -105,18 +103,3 @@ module _ (number : ℕ) (bottom percent : Bool) (fill : Rgb) where
   pub some_rank : orders_values (CfRule.TopBottom number bottom percent fill) ≡ true → number ≡ 0 → ⊥
   unfolding orders_values
   some_rank o z = false≢true (rw z at o)
-
--- the kinds that an arm `_` takes beside the two, by their tags in the order of declaration
-abbrev unordering : List ℕ
-unordering = 0 ∷ 1 ∷ 3 ∷ 5 ∷ 6 ∷ 7 ∷ []
-
-pub not_ordering : (kind : CfRule) → OneOf unordering (tag_of CfRule-type.the_type kind) → orders_values kind ≡ false
-unfolding orders_values
-not_ordering (CfRule.CellIs op first second fill) h = refl
-not_ordering (CfRule.ColorScale2 min max) h = refl
-not_ordering (CfRule.ColorScale3 min mid max) h = absurd (miss unordering 2 tt h)
-not_ordering (CfRule.DataBar color) h = refl
-not_ordering (CfRule.TopBottom number bottom percent fill) h = absurd (miss unordering 4 tt h)
-not_ordering (CfRule.AboveAverage below fill) h = refl
-not_ordering (CfRule.DuplicateValues unique fill) h = refl
-not_ordering (CfRule.Expression op left right fill) h = refl

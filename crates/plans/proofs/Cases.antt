@@ -1,5 +1,6 @@
 -- What a rule of each kind comes to, in the code's steps: from the bounds of the values, and from whether there are values at all.
 -- Assumes nothing.
+use Rattle.std.specs.Prelude.{None, Some}
 use Prim.Native.Nat.{ℕ, zero, suc}
 use mathlib.Core.Path.{◌≡◌, refl}
 use mathlib.Core.Bool.{Bool}
@@ -12,15 +13,14 @@ use Rattle.model.specs.declared.Test.{Test}
 use Rattle.model.specs.declared.Plan.{Plan}
 use Rattle.model.specs.Values.{sorted, midpoint, selected, threshold, average}
 use Rattle.model.specs.Rule.{scale2, scale3, bar, rank, against, mean}
-use Rattle.values.specs.declared.Bounds.{Bounds}
-use Rattle.values.specs.Bounds.{bounds_of}
+use Rattle.values.specs.Bounds.{Bounds, bounds_of}
 
 -- ---- by bounds
 
 -- tested between bounds, and skipped without
 abbrev pub tested_between : (Float → Float → Test) → Bounds → Plan
-tested_between test (Bounds.Of low high) = Plan.Tested (test low high)
-tested_between test Bounds.Nothing = Plan.Skipped
+tested_between test (Some b) = Plan.Tested (test b.least b.greatest)
+tested_between test None = Plan.Skipped
 
 pub scale2_bounds : (min max : Rgb) (xs : List Float) → scale2 min max xs ≡ tested_between (Test.ColorScale2 min max) (bounds_of xs)
 unfolding scale2 bounds_of

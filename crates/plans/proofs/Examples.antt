@@ -1,5 +1,6 @@
 -- What `plan_of_values` gives and leaves, computed: of no value, of one and of three, for kinds that sort them and one that takes none. And
 -- what `plan_of_numbers` gives, of values that are all finite and of others. Assumes nothing.
+use Rattle.std.specs.Prelude.{Some, None}
 use Prim.Native.Nat.{ℕ}
 use mathlib.Core.Path.{◌≡◌, refl}
 use mathlib.Core.Bool.{true, false}
@@ -13,7 +14,6 @@ use Rattle.model.specs.Ratio.{zero_f}
 use Rattle.model.proofs.Computing.{jobs}
 use Rattle.model.proofs.Samples.{samples, whole, float, red, green}
 use Rattle.ranks.specs.Finite.{all_finite}
-use Rattle.plans.specs.declared.Planned.{Planned}
 use Rattle.plans.specs.Plans.{plan_of_values, orders_values, planned_of}
 
 abbrev number : ℕ → Float
@@ -45,15 +45,15 @@ other = refl
 -- ---- by values that are not moved
 
 told : planned_of (CfRule.TopBottom 1 true false red) (number 9 ∷ number 2 ∷ [])
-    ≡ Planned.Of (Plan.Tested (Test.TopBottom true (number 2) red))
+    ≡ Some (Plan.Tested (Test.TopBottom true (number 2) red))
 unfolding jobs samples plan_of_values orders_values planned_of all_finite
 told = refl
 
-infinite : planned_of (CfRule.TopBottom 1 true false red) (number 9 ∷ inf false ∷ []) ≡ Planned.Unordered
+infinite : planned_of (CfRule.TopBottom 1 true false red) (number 9 ∷ inf false ∷ []) ≡ None
 unfolding jobs samples orders_values planned_of all_finite
 infinite = refl
 
 -- a rank of 0 is skipped all the same
-infinite_zero : planned_of (CfRule.TopBottom 0 true false red) (number 9 ∷ inf false ∷ []) ≡ Planned.Of Plan.Skipped
+infinite_zero : planned_of (CfRule.TopBottom 0 true false red) (number 9 ∷ inf false ∷ []) ≡ Some Plan.Skipped
 unfolding jobs samples plan_of_values orders_values planned_of all_finite
 infinite_zero = refl

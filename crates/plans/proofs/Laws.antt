@@ -1,5 +1,6 @@
 -- A rule's plan is worked out apart from its sheet: from the values of its range, from its operands, or, of a duplicate rule, from where
 -- its range lies. And the rules that count as simplified are those whose regions are tested for a bar. Assumes nothing.
+use Rattle.std.specs.Prelude.{Some, None}
 use Prim.Native.Nat.{ℕ, zero, suc}
 use mathlib.Core.Path.{◌≡◌, refl, ◌∙◌}
 use mathlib.Core.Bool.{Bool, true, false, cond, ◌&&◌, ◌||◌, false≢true, and-false}
@@ -10,7 +11,7 @@ use lib.ListN.{length}
 use lib.Ieee.{Float}
 use borrow.Author.Tests.{leb-true, le-leb, lt-ltb}
 use Rattle.model.specs.declared.CellCoordinate.{CellCoordinate}
-use Rattle.model.specs.declared.Reading.{Reading}
+use Rattle.model.specs.Options.{Reading}
 use Rattle.model.specs.declared.Rgb.{Rgb}
 use Rattle.model.specs.declared.Range.{Range}
 use Rattle.model.specs.declared.CfRule.{CfRule}
@@ -112,8 +113,8 @@ values_inverted s r u = rw (cells_inverted r s.cells u)
 
 against_no_bar : (below : Bool) (fill : Rgb) (m : Reading) → false ≡ tests_bar (against below fill m)
 unfolding against tests_bar is_bar_test
-against_no_bar below fill (Reading.Number x) = refl
-against_no_bar below fill Reading.Nothing = refl
+against_no_bar below fill (Some x) = refl
+against_no_bar below fill None = refl
 
 values_bar : (k : CfRule) (xs : List Float) → is_bar k && ltb 0 (length xs) ≡ tests_bar (plan_of_values k xs)
 unfolding is_bar tests_bar is_bar_test plan_of_values scale2 scale3 bar rank mean

@@ -1,6 +1,6 @@
 -- What a rule comes to ahead of its regions, apart by what it is worked out from: the values of its range, or its operands.
 -- Assumes nothing.
-use Rattle.std.specs.Prelude.{Bool, true, false, cond, not, ◌&&◌, ◌||◌, List, ltb, Float}
+use Rattle.std.specs.Prelude.{Option, Bool, true, false, cond, not, ◌&&◌, ◌||◌, List, ltb, Float, Some, None}
 use Rattle.model.specs.declared.CfRule.{CfRule}
 use Rattle.model.specs.declared.Test.{Test}
 use Rattle.model.specs.declared.Plan.{Plan}
@@ -8,7 +8,6 @@ use Rattle.model.specs.References.{unread}
 use Rattle.model.specs.Comparison.{uses_second}
 use Rattle.model.specs.Rule.{scale2, scale3, bar, rank, mean}
 use Rattle.ranks.specs.Finite.{all_finite}
-use Rattle.plans.specs.declared.Planned.{Planned}
 
 -- ---- by values
 
@@ -45,9 +44,13 @@ orders_values (CfRule.AboveAverage below fill) = false
 orders_values (CfRule.DuplicateValues unique fill) = false
 orders_values (CfRule.Expression op left right fill) = false
 
+-- what a rule comes to, if counting tells it
+abbrev pub Planned : Type 0
+Planned = Option Plan
+
 -- by values in any order: those that are all finite need not be put in order
 unfoldable pub planned_of : CfRule → List Float → Planned
-planned_of kind xs = cond (orders_values kind && not (all_finite xs)) Planned.Unordered (Planned.Of (plan_of_values kind xs))
+planned_of kind xs = cond (orders_values kind && not (all_finite xs)) None (Some (plan_of_values kind xs))
 
 -- ---- by operands
 

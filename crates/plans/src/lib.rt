@@ -12,20 +12,15 @@ ghost use Rattle.values.specs.Bounds.{bounds_of};
 ghost use Rattle.ranks.specs.Finite.{all_finite};
 ghost use Rattle.plans.specs.Plans.{takes_values, plan_of_values, orders_values, planned_of, plan_of_operands};
 
-use model::{CfRule, ConditionalComparison, ConditionalOperand, DvOp, Plan, Reading, Rgb, Test};
+use comparison::uses_second;
+use model::{CfRule, ConditionalComparison, ConditionalOperand, DvOp, Plan, Rgb, Test};
 use readings::number::is_finite;
-use values::Bounds;
-
-// What a rule comes to by values that are not moved: nothing is told where they would have to be put in order.
-#[derive(Clone, Copy)]
-pub enum Planned {
-    Of(Plan),
-    Unordered,
-}
+use values::{Bounds, average, midpoint, numeric_bounds, selected, sort, threshold};
 
 // ---- by operands
 
 // Whether parse_conditional_operand gives nothing. A literal that is not finite counts as unread.
+#[tactic(auto, unfolding(model::specs::References::unread))]
 pub fn unread(operand: ConditionalOperand) -> bool
     ensures { result ≡ unread operand }
 {
@@ -37,13 +32,11 @@ pub fn unread(operand: ConditionalOperand) -> bool
 }
 
 // Port of the arm CfRule::CellIs up to its regions. The second operand is looked at only if the operator uses it.
+#[tactic(auto, unfolding(crate::specs::Plans::plan_of_operands))]
 fn cell_is(op: DvOp, first: ConditionalOperand, second: ConditionalOperand, fill: Rgb) -> Plan
     ensures { result ≡ plan_of_operands (CfRule.CellIs op first second fill) }
 {
-    if unread(first) {
-        return Plan::Deferred;
-    }
-    if comparison::uses_second(op) && unread(second) {
+    if unread(first) || (uses_second(op) && unread(second)) {
         return Plan::Deferred;
     }
     Plan::Tested(Test::CellIs {
@@ -55,6 +48,7 @@ fn cell_is(op: DvOp, first: ConditionalOperand, second: ConditionalOperand, fill
 }
 
 // Port of the arm CfRule::Expression up to its regions.
+#[tactic(auto, unfolding(crate::specs::Plans::plan_of_operands))]
 fn expression(
     op: ConditionalComparison,
     left: ConditionalOperand,
@@ -63,10 +57,7 @@ fn expression(
 ) -> Plan
     ensures { result ≡ plan_of_operands (CfRule.Expression op left right fill) }
 {
-    if unread(left) {
-        return Plan::Deferred;
-    }
-    if unread(right) {
+    if unread(left) || unread(right) {
         return Plan::Deferred;
     }
     Plan::Tested(Test::Expression {
@@ -78,6 +69,7 @@ fn expression(
 }
 
 // Port of the two arms that parse operands. The other kinds are skipped.
+#[tactic(auto, unfolding(crate::specs::Plans::plan_of_operands))]
 pub fn plan_of_operands(kind: CfRule) -> Plan
     ensures { result ≡ plan_of_operands kind }
 {
@@ -88,18 +80,13 @@ pub fn plan_of_operands(kind: CfRule) -> Plan
             second,
             fill,
         } => cell_is(op, first, second, fill),
-        CfRule::ColorScale2 { .. } => Plan::Skipped,
-        CfRule::ColorScale3 { .. } => Plan::Skipped,
-        CfRule::DataBar { .. } => Plan::Skipped,
-        CfRule::TopBottom { .. } => Plan::Skipped,
-        CfRule::AboveAverage { .. } => Plan::Skipped,
-        CfRule::DuplicateValues { .. } => Plan::Skipped,
         CfRule::Expression {
             op,
             left,
             right,
             fill,
         } => expression(op, left, right, fill),
+        _ => Plan::Skipped,
     }
 }
 
@@ -109,7 +96,7 @@ pub fn plan_of_operands(kind: CfRule) -> Plan
 fn color_scale2(min: Rgb, max: Rgb, values: &[f64]) -> Plan
     ensures { result ≡ scale2 min max values.now }
 {
-    let Bounds::Of { least, greatest } = values::numeric_bounds(values) else {
+    let Some(Bounds { least, greatest }) = numeric_bounds(values) else {
         return Plan::Skipped;
     };
     Plan::Tested(Test::ColorScale2 {
@@ -121,10 +108,10 @@ fn color_scale2(min: Rgb, max: Rgb, values: &[f64]) -> Plan
 }
 
 // Port of the arm CfRule::ColorScale3 up to its regions, of values with these bounds and this midpoint.
-fn color_scale3(min: Rgb, mid: Rgb, max: Rgb, bounds: Bounds, middle: f64) -> Plan
+fn color_scale3(min: Rgb, mid: Rgb, max: Rgb, bounds: Option<Bounds>, middle: f64) -> Plan
     ensures { (xs : List Float) → bounds ≡ bounds_of xs → middle ≡ midpoint (sorted xs) → result ≡ scale3 min mid max xs }
 {
-    let Bounds::Of { least, greatest } = bounds else {
+    let Some(Bounds { least, greatest }) = bounds else {
         return Plan::Skipped;
     };
     Plan::Tested(Test::ColorScale3 {
@@ -138,23 +125,19 @@ fn color_scale3(min: Rgb, mid: Rgb, max: Rgb, bounds: Bounds, middle: f64) -> Pl
 }
 
 // The same, by values that are not moved.
-fn color_scale3_of(min: Rgb, mid: Rgb, max: Rgb, values: &[f64]) -> Planned
+fn color_scale3_of(min: Rgb, mid: Rgb, max: Rgb, values: &[f64]) -> Option<Plan>
     ensures { result ≡ planned_of (CfRule.ColorScale3 min mid max) values.now }
 {
-    match ranks::midpoint(values) {
-        Reading::Number(middle) => {
-            let bounds = values::numeric_bounds(values);
-            Planned::Of(color_scale3(min, mid, max, bounds, middle))
-        }
-        Reading::Nothing => Planned::Unordered,
-    }
+    let middle = ranks::midpoint(values)?;
+    let bounds = numeric_bounds(values);
+    Some(color_scale3(min, mid, max, bounds, middle))
 }
 
 // Port of the arm CfRule::DataBar up to its regions.
 fn data_bar(color: Rgb, values: &[f64]) -> Plan
     ensures { result ≡ bar color values.now }
 {
-    let Bounds::Of { least, greatest } = values::numeric_bounds(values) else {
+    let Some(Bounds { least, greatest }) = numeric_bounds(values) else {
         return Plan::Skipped;
     };
     Plan::Tested(Test::DataBar {
@@ -165,84 +148,77 @@ fn data_bar(color: Rgb, values: &[f64]) -> Plan
 }
 
 // Port of the arm CfRule::TopBottom up to its regions, by values that are not moved.
-fn top_bottom(number: u32, bottom: bool, percent: bool, fill: Rgb, values: &[f64]) -> Planned
+fn top_bottom(number: u32, bottom: bool, percent: bool, fill: Rgb, values: &[f64]) -> Option<Plan>
     ensures { result ≡ planned_of (CfRule.TopBottom number bottom percent fill) values.now }
 {
-    let n = values.len();
-    if n == 0 {
-        return Planned::Of(Plan::Skipped);
-    }
     let none = number == 0;
-    if none {
-        return Planned::Of(Plan::Skipped);
+    if none || values.is_empty() {
+        return Some(Plan::Skipped);
     }
-    match ranks::threshold(bottom, values::selected(percent, number, n), values) {
-        Reading::Number(threshold) => Planned::Of(Plan::Tested(Test::TopBottom {
-            bottom,
-            threshold,
-            fill,
-        })),
-        Reading::Nothing => Planned::Unordered,
-    }
+    let threshold = ranks::threshold(bottom, selected(percent, number, values.len()), values)?;
+    Some(Plan::Tested(Test::TopBottom {
+        bottom,
+        threshold,
+        fill,
+    }))
 }
 
 // Port of the arm CfRule::AboveAverage up to its regions. A sum that is not finite defers.
 fn above_average(below: bool, fill: Rgb, values: &[f64]) -> Plan
     ensures { result ≡ mean below fill values.now }
 {
-    if values.len() == 0 {
+    if values.is_empty() {
         return Plan::Skipped;
     }
-    match values::average(values) {
-        Reading::Number(average) => Plan::Tested(Test::AboveAverage {
-            below,
-            average,
-            fill,
-        }),
-        Reading::Nothing => Plan::Deferred,
-    }
+    let Some(average) = average(values) else {
+        return Plan::Deferred;
+    };
+    Plan::Tested(Test::AboveAverage {
+        below,
+        average,
+        fill,
+    })
 }
 
 // Whether the arm of this kind calls conditional_numeric_values.
+#[tactic(auto, unfolding(crate::specs::Plans::takes_values))]
 pub fn takes_values(kind: CfRule) -> bool
     ensures { result ≡ takes_values kind }
 {
-    match kind {
-        CfRule::CellIs { .. } => false,
-        CfRule::ColorScale2 { .. } => true,
-        CfRule::ColorScale3 { .. } => true,
-        CfRule::DataBar { .. } => true,
-        CfRule::TopBottom { .. } => true,
-        CfRule::AboveAverage { .. } => true,
-        CfRule::DuplicateValues { .. } => false,
-        CfRule::Expression { .. } => false,
-    }
+    matches!(
+        kind,
+        CfRule::ColorScale2 { .. }
+            | CfRule::ColorScale3 { .. }
+            | CfRule::DataBar { .. }
+            | CfRule::TopBottom { .. }
+            | CfRule::AboveAverage { .. }
+    )
 }
 
 // Port of the five arms that call conditional_numeric_values, whose values these are, in sheet order. The other kinds are skipped. No value
 // is moved or written: counting gives what stands at a place of the values in order, if they are all finite.
-pub fn plan_of_numbers(kind: CfRule, values: &[f64]) -> Planned
+#[tactic(auto, unfolding(crate::specs::Plans::orders_values, crate::specs::Plans::plan_of_values, crate::specs::Plans::planned_of))]
+pub fn plan_of_numbers(kind: CfRule, values: &[f64]) -> Option<Plan>
     ensures { result ≡ planned_of kind values.now }
 {
     match kind {
-        CfRule::CellIs { .. } => Planned::Of(Plan::Skipped),
-        CfRule::ColorScale2 { min, max } => Planned::Of(color_scale2(min, max, values)),
+        CfRule::ColorScale2 { min, max } => Some(color_scale2(min, max, values)),
         CfRule::ColorScale3 { min, mid, max } => color_scale3_of(min, mid, max, values),
-        CfRule::DataBar { color } => Planned::Of(data_bar(color, values)),
+        CfRule::DataBar { color } => Some(data_bar(color, values)),
         CfRule::TopBottom {
             rank,
             bottom,
             percent,
             fill,
         } => top_bottom(rank, bottom, percent, fill, values),
-        CfRule::AboveAverage { below, fill } => Planned::Of(above_average(below, fill, values)),
-        CfRule::DuplicateValues { .. } => Planned::Of(Plan::Skipped),
-        CfRule::Expression { .. } => Planned::Of(Plan::Skipped),
+        CfRule::AboveAverage { below, fill } => Some(above_average(below, fill, values)),
+        _ => Some(Plan::Skipped),
     }
 }
 
 // The two kinds that need the values in order, where counting does not tell. The bounds are taken ahead of sorting, which puts -0 before
 // an earlier +0.
+#[tactic(auto, unfolding(crate::specs::Plans::orders_values))]
 fn plan_in_order(kind: CfRule, values: &mut [f64]) -> Plan
     requires kind_value { orders_values kind ≡ true }
     requires values_value { all_finite values.old ≡ false }
@@ -250,9 +226,9 @@ fn plan_in_order(kind: CfRule, values: &mut [f64]) -> Plan
 {
     match kind {
         CfRule::ColorScale3 { min, mid, max } => {
-            let bounds = values::numeric_bounds(values);
-            values::sort(values);
-            color_scale3(min, mid, max, bounds, values::midpoint(values))
+            let bounds = numeric_bounds(values);
+            sort(values);
+            color_scale3(min, mid, max, bounds, midpoint(values))
         }
         CfRule::TopBottom {
             rank,
@@ -260,9 +236,9 @@ fn plan_in_order(kind: CfRule, values: &mut [f64]) -> Plan
             percent,
             fill,
         } => {
-            let count = values::selected(percent, rank, values.len());
-            values::sort(values);
-            let threshold = values::threshold(bottom, count, values);
+            let count = selected(percent, rank, values.len());
+            sort(values);
+            let threshold = threshold(bottom, count, values);
             Plan::Tested(Test::TopBottom {
                 bottom,
                 threshold,
@@ -279,9 +255,9 @@ pub fn plan_of_values(kind: CfRule, values: &mut [f64]) -> Plan
     ensures values_after { values.new ≡ replicate (length values.old) zero_f }
 {
     let plan = match plan_of_numbers(kind, values) {
-        Planned::Of(plan) => plan,
-        Planned::Unordered => plan_in_order(kind, values),
+        Some(plan) => plan,
+        None => plan_in_order(kind, values),
     };
-    lent::clear_f64(values);
+    values.fill(0.0);
     plan
 }

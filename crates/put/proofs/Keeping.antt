@@ -1,44 +1,18 @@
--- Laws of zeros from a place on, and of a text that is kept if it fits.
+-- Laws of a text that is kept if it fits.
 -- Assumes nothing.
-use Prim.Native.Nat.{ℕ, suc, ◌+◌, ◌-◌, ◌≤◌, ◌<◌}
-use native.Mathlib.Numerals.{add-one}
+use Prim.Native.Nat.{ℕ, ◌+◌, ◌-◌, ◌≤◌, ◌<◌}
 use native.Mathlib.Omega.{arith}
 use mathlib.Core.Path.{◌≡◌, refl, sym, ap, ◌∙◌}
 use mathlib.Core.Bool.{Bool, true, false}
-use mathlib.Core.List.{List, ◌++◌, append_assoc, append-nil}
+use mathlib.Core.List.{List, ◌++◌}
 use lib.Dec.{leb}
-use lib.ListN.{length, take, drop, set, replicate, length-set}
-use lib.Seq.{take_all, take-suc-set, take-append_seam, sets-eq}
+use lib.ListN.{length, take, drop, replicate}
+use lib.Seq.{take-append_seam, sets-eq}
 use borrow.Author.Tests.{leb-true, leb-false, le-leb, lt-leb}
 use Rattle.memory.specs.Memory.{page, page_length}
 use Rattle.memory.proofs.Laws.{all_fits, text_fits, text_over}
 use Rattle.put.specs.Put.{Stops, kept_length, kept_bytes}
 use Rattle.put.proofs.Laws.{stops_length}
-
--- ---- zeros from a place on
-
--- clearing l from i on gives what clearing l₀ from `from` on gives
-pub record Clearing (from : ℕ) (l₀ l : List ℕ) (i : ℕ) : Type 0 where
-  pub long : length l ≡ length l₀
-  pub bytes : kept_bytes l i ≡ kept_bytes l₀ from
-
-pub clearing_begun : (l : List ℕ) (from : ℕ) → Clearing from l l from
-clearing_begun l from = record { long = refl; bytes = refl }
-
-store_zero : (l : List ℕ) (i : ℕ) → i < length l → kept_bytes (set l i 0) (i + 1) ≡ kept_bytes l i
-store_zero l i h =
-    let e : length l - i ≡ suc (length l - suc i) = omega arith in
-    rw (add-one, take-suc-set l i 0, length-set, append_assoc, e)
-
-pub clearing_more : {from : ℕ} {l₀ l : List ℕ} {i : ℕ} → Clearing from l₀ l i → i < length l → Clearing from l₀ (set l i 0) (i + 1)
-clearing_more {from} {l₀} {l} {i} c h =
-    record { long = length-set l i 0 ∙ c.long; bytes = store_zero l i h ∙ c.bytes }
-
-pub clearing_done : {from : ℕ} {l₀ l : List ℕ} {i : ℕ} → Clearing from l₀ l i → length l ≤ i → l ≡ kept_bytes l₀ from
-clearing_done {from} {l₀} {l} {i} c h =
-    let e : length l - i ≡ 0 = omega arith in
-    let all : kept_bytes l i ≡ l = rw (take_all i l, e, append-nil) in
-    sym all ∙ c.bytes
 
 pub none_kept : (l : List ℕ) → kept_bytes l 0 ≡ replicate (length l) 0
 none_kept l = let e : length l - 0 ≡ length l = omega arith in rw e

@@ -1,6 +1,6 @@
 -- Laws of writing one piece of text after another, straight on and in a loop, and of a text that is counted.
 -- Assumes nothing.
-use Prim.Native.Nat.{ℕ, ◌+◌, ◌-◌, ◌≤◌, ◌<◌}
+use Prim.Native.Nat.{ℕ, ◌+◌, ◌*◌, ◌≤◌, ◌<◌}
 use native.Mathlib.Omega.{arith}
 use mathlib.Core.Path.{◌≡◌, refl, sym, ap, ◌∙◌}
 use mathlib.Core.Bool.{Bool, true, false}
@@ -8,19 +8,13 @@ use mathlib.Core.List.{List, [], ◌++◌}
 use lib.Dec.{leb}
 use lib.ListN.{length, replicate, length-append}
 use lib.Seq.{sets}
-use borrow.Author.Tests.{leb-true, leb-false, le-leb, lt-leb}
+use borrow.Author.Tests.{leb-true, leb-false}
 use Rattle.memory.specs.Memory.{all_or_zeros}
 use Rattle.memory.proofs.Laws.{all_fits, all_over, all_none, all_append, length_all}
-use Rattle.put.specs.Put.{last, place_after, Laid, Stops, Ready}
+use Rattle.put.specs.declared.Cursor.{Cursor}
+use Rattle.put.specs.Put.{last, place_after, Laid, Stops, Puts, PutsSome, Ready}
 
 -- ---- a piece
-
-pub room_left : (size at n : ℕ) → at ≤ size → leb n (size - at) ≡ leb (at + n) size
-room_left size at n h = go (leb n (size - at)) refl
-  where
-    go : (b : Bool) → leb n (size - at) ≡ b → leb n (size - at) ≡ leb (at + n) size
-    go true e = e ∙ sym (le-leb (at + n) size (omega (arith, leb-true n (size - at) e)))
-    go false e = e ∙ sym (lt-leb (at + n) size (omega (arith, leb-false n (size - at) e)))
 
 module _ {d e : List ℕ} {at r : ℕ} {ts : List ℕ} where
   pub laid_fits : length d < last → at + length ts ≤ length d → e ≡ sets d at ts → r ≡ at + length ts → Laid d at ts e r
@@ -170,3 +164,55 @@ left_stopped {d} {e} {at} {q} {ts} {vs} room l past =
       fits = λ h. omega arith;
       over = λ h. omega arith;
     }
+
+-- ---- at a cursor
+
+module _ {c d : Cursor} {ts : List ℕ} where
+  -- the same text under another name
+  pub puts_as : {us : List ℕ} → Puts c ts d → us ≡ ts → Puts c us d
+  puts_as a p = record { laid = laid_as a.laid p; lender = a.lender }
+
+  pub some_as : {us : List ℕ} → PutsSome c ts d → us ≡ ts → PutsSome c us d
+  some_as a p = record { stops = stops_as a.stops p; lender = a.lender }
+
+  pub some_of_puts : length c.bytes.now < last → Puts c ts d → PutsSome c ts d
+  some_of_puts room a = record { stops = stops_of_laid room a.laid; lender = a.lender }
+
+-- what lending bytes tells of their number: one byte each, and fewer than 2^63
+abbrev pub Lent : Cursor → Type 0
+Lent c = length c.bytes.now * 1 < 9_223_372_036_854_775_808
+
+module _ {c d e : Cursor} {xs ys : List ℕ} where
+  pub puts_then : length c.bytes.now < last → Puts c xs d → Puts d ys e → Puts c (xs ++ ys) e
+  puts_then room a b = record { laid = laid_then room a.laid b.laid; lender = b.lender ∙ a.lender }
+
+  pub some_then : PutsSome c xs d → PutsSome d ys e → PutsSome c (xs ++ ys) e
+  some_then a b = record { stops = stops_then a.stops b.stops; lender = b.lender ∙ a.lender }
+
+  -- what comes behind goes into as many bytes
+  pub puts_on : Puts c xs d → Lent c → (Lent d → Puts d ys e) → Puts c (xs ++ ys) e
+  puts_on a l more =
+      let same : length d.bytes.now ≡ length c.bytes.now = laid_length a.laid in
+      puts_then (omega arith) a (more (omega arith))
+
+-- ---- pieces in a loop, at a cursor
+
+-- putting us at d gives what putting ts at c gives
+pub record PutsLeft (c : Cursor) (ts : List ℕ) (d : Cursor) (us : List ℕ) : Type 0 where
+  pub left : LaidLeft c.bytes.now c.at ts d.bytes.now d.at us
+  pub lender : d.bytes.ghost_name ≡ c.bytes.ghost_name
+
+pub puts_begun : {c : Cursor} {ts : List ℕ} → Ready c.bytes.now c.at → PutsLeft c ts c ts
+puts_begun r = record { left = left_begun r; lender = refl }
+
+pub puts_more : {c d e : Cursor} {ts vs xs us : List ℕ} → length c.bytes.now < last → PutsLeft c ts d vs → vs ≡ xs ++ us
+    → Puts d xs e → PutsLeft c ts e us
+puts_more room l p a = record { left = left_more room l.left p a.laid; lender = a.lender ∙ l.lender }
+
+pub puts_done : {c d : Cursor} {ts vs : List ℕ} → PutsLeft c ts d vs → vs ≡ [] → Puts c ts d
+puts_done l p = record { laid = left_done l.left p; lender = l.lender }
+
+-- a piece did not fit: nothing that is left does
+pub puts_stopped : {c d : Cursor} {ts vs : List ℕ} → length c.bytes.now < last → PutsLeft c ts d vs → length d.bytes.now < d.at
+    → PutsSome c ts d
+puts_stopped room l past = record { stops = left_stopped room l.left past; lender = l.lender }

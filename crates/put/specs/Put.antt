@@ -2,6 +2,7 @@
 -- Assumes nothing.
 use Rattle.std.specs.Prelude.{ℕ, ◌+◌, ◌-◌, ◌≤◌, ◌<◌, min, ◌≡◌, true, cond, List, [], ◌++◌, leb, length, take, replicate}
 use Rattle.memory.specs.Memory.{all_or_zeros}
+use Rattle.put.specs.declared.Cursor.{Cursor}
 
 abbrev pub last : ℕ
 last = 18_446_744_073_709_551_615
@@ -24,6 +25,16 @@ pub record Stops (d : List ℕ) (at : ℕ) (ts e : List ℕ) (r : ℕ) : Type 0 
 -- a place to go on from: nothing laid there changes nothing
 abbrev pub Ready : List ℕ → ℕ → Type 0
 Ready d at = Laid d at [] d at
+
+-- ts is put at the cursor c, which is then d and lends the same bytes
+pub record Puts (c : Cursor) (ts : List ℕ) (d : Cursor) : Type 0 where
+  pub laid : Laid c.bytes.now c.at ts d.bytes.now d.at
+  pub lender : d.bytes.ghost_name ≡ c.bytes.ghost_name
+
+-- the same, stopping as `Stops` says
+pub record PutsSome (c : Cursor) (ts : List ℕ) (d : Cursor) : Type 0 where
+  pub stops : Stops c.bytes.now c.at ts d.bytes.now d.at
+  pub lender : d.bytes.ghost_name ≡ c.bytes.ghost_name
 
 -- how many of n bytes a text takes that ends at `end`: 0 where it is longer
 abbrev pub kept_length : ℕ → ℕ → ℕ

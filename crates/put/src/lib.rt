@@ -1,142 +1,167 @@
-// Text written into lent bytes, piece after piece: each function hands back the place behind its piece. A piece that does not fit leaves
-// zeros from end to end, and its place is the same: a text laid into no bytes at all is counted.
+// Text written into lent bytes, piece after piece. A piece that does not fit leaves zeros from end to end, and the place behind it is the
+// same: a text put into no bytes at all is counted.
 #![tactic(auto)]
 
-ghost use Rattle.std.specs.Prelude.{◌<◌, ◌≡◌, [], ◌∷◌, ◌++◌, length};
+ghost use Rattle.std.specs.Prelude.{◌<◌, ◌≡◌, [], ◌∷◌, ◌++◌, length, replicate};
 ghost use Rattle.memory.specs.Memory.{fits};
 ghost use Rattle.grammar.specs.Parts.{bytes};
 ghost use Rattle.grammar.specs.Numbers.{decimal_text, hex_digit, hex_digits, pairs_text};
-ghost use Rattle.put.specs.Put.{place_after, Laid, kept_length, kept_bytes};
+ghost use Rattle.put.specs.Put.{place_after, Laid, Puts, kept_length, kept_bytes};
 
-const LAST: usize = 18446744073709551615;
-
-// Whether n bytes from a place on are within a length.
-fn has_room(len: usize, at: usize, n: usize) -> bool
-    ensures { result ≡ fits len at n }
-{
-    at <= len && n <= len - at
+// Lent bytes, and the place in them at which the next piece is put.
+#[derive(Drop)]
+pub struct Cursor<'a> {
+    pub bytes: &'a mut [u8],
+    pub at: usize,
 }
 
-// The place behind n bytes, also where they do not fit.
-fn place_after(at: usize, n: usize) -> usize
-    ensures { result ≡ place_after at n }
-{
-    if n <= LAST - at { at + n } else { LAST }
+impl Cursor<'_> {
+    // Whether n bytes more are within the lent ones.
+    fn has_room(&self, n: usize) -> bool
+        ensures { result ≡ fits (length self.now.bytes.now) self.now.at n }
+    {
+        let len = self.bytes.len();
+        self.at <= len && n <= len - self.at
+    }
+
+    // A piece of n bytes that does not fit.
+    fn pass_over(&mut self, n: usize)
+        ensures bytes { self.new.bytes.now ≡ replicate (length self.old.bytes.now) 0 }
+        ensures next { self.new.at ≡ place_after self.old.at n }
+        ensures lender { self.new.bytes.ghost_name ≡ self.old.bytes.ghost_name }
+    {
+        self.bytes.fill(0);
+        self.at = self.at.saturating_add(n);
+    }
+
+    pub fn put_byte(&mut self, b: u8)
+        ensures { Puts self.old (b ∷ []) self.new }
+    {
+        self.put_bytes(&[b]);
+    }
+
+    pub fn put_bytes(&mut self, piece: &[u8])
+        ensures { Puts self.old piece.now self.new }
+    {
+        if !self.has_room(piece.len()) {
+            self.pass_over(piece.len());
+            return;
+        }
+        let end = self.at + piece.len();
+        self.bytes[self.at..end].copy_from_slice(piece);
+        self.at = end;
+    }
+
+    // A number in decimal.
+    pub fn put_decimal(&mut self, n: u64)
+        ensures { Puts self.old (decimal_text n) self.new }
+    {
+        self.at = put_digits(self.bytes, self.at, n);
+    }
+
+    // A number in decimal, and the byte that ends its field.
+    pub fn put_number(&mut self, n: u64, end: u8)
+        ensures { Puts self.old (decimal_text n ++ (end ∷ [])) self.new }
+    {
+        self.put_decimal(n);
+        self.put_byte(end);
+    }
+
+    // The last k hexadecimal digits of a number.
+    pub fn put_hex(&mut self, k: usize, n: u64)
+        ensures { Puts self.old (hex_digits k n) self.new }
+    {
+        if !self.has_room(k) {
+            self.pass_over(k);
+            return;
+        }
+        let at = self.at;
+        let mut rest = n;
+        for i in (0..k).rev() {
+            self.bytes[at + i] = hex_digit((rest % 16) as u8);
+            rest /= 16;
+        }
+        self.at = at + k;
+    }
+
+    // Bytes, each as two hexadecimal digits.
+    pub fn put_pairs(&mut self, piece: &[u8])
+        ensures { Puts self.old (pairs_text piece.now) self.new }
+    {
+        let n = piece.len() * 2;
+        if !self.has_room(n) {
+            self.pass_over(n);
+            return;
+        }
+        let mut end = self.at;
+        for &b in piece {
+            self.bytes[end] = hex_digit(b / 16);
+            self.bytes[end + 1] = hex_digit(b % 16);
+            end += 2;
+        }
+        self.at = end;
+    }
+
+    // `t`, bytes as pairs of digits, and the byte that ends the field.
+    pub fn put_text(&mut self, piece: &[u8], end: u8)
+        ensures { Puts self.old (bytes "t" ++ (pairs_text piece.now ++ (end ∷ []))) self.new }
+    {
+        self.put_byte(b't');
+        self.put_pairs(piece);
+        self.put_byte(end);
+    }
+
+    // A text that ends at the cursor stays if it fits, with zeros behind it; else there are zeros from end to end.
+    pub fn keep(&mut self) -> usize
+        ensures length { result ≡ kept_length (length self.old.bytes.now) self.old.at }
+        ensures bytes { self.new.bytes.now ≡ kept_bytes self.old.bytes.now result }
+        ensures at { self.new.at ≡ self.old.at }
+        ensures lender { self.new.bytes.ghost_name ≡ self.old.bytes.ghost_name }
+    {
+        let kept = kept_length(self.bytes.len(), self.at);
+        clear_from(self.bytes, kept);
+        kept
+    }
 }
 
-pub fn put_byte(text: &mut [u8], at: usize, b: u8) -> usize
+// A byte at a place: the place behind it.
+fn put_digit(text: &mut [u8], at: usize, b: u8) -> usize
     ensures { Laid text.old at (b ∷ []) text.new result }
 {
     if at < text.len() {
         text[at] = b;
         return at + 1;
     }
-    clear_from(text, 0);
-    place_after(at, 1)
+    text.fill(0);
+    at.saturating_add(1)
 }
 
-pub fn put_bytes(text: &mut [u8], at: usize, piece: &[u8]) -> usize
-    ensures { Laid text.old at piece.now text.new result }
-{
-    if !has_room(text.len(), at, piece.len()) {
-        clear_from(text, 0);
-        return place_after(at, piece.len());
-    }
-    let mut i = 0;
-    while i < piece.len() {
-        text[at + i] = piece[i];
-        i += 1;
-    }
-    at + i
-}
-
-// A number in decimal.
-pub fn put_decimal(text: &mut [u8], at: usize, n: u64) -> usize
+// A number in decimal at a place. The place goes on as a value: to step the cursor at each digit makes a long report a quarter slower.
+fn put_digits(text: &mut [u8], at: usize, n: u64) -> usize
     ensures { Laid text.old at (decimal_text n) text.new result }
 {
     if n < 10 {
-        put_byte(text, at, 48 + n as u8)
+        put_digit(text, at, b'0' + n as u8)
     } else {
-        let end = put_decimal(text, at, n / 10);
-        put_byte(text, end, 48 + (n % 10) as u8)
+        let end = put_digits(text, at, n / 10);
+        put_digit(text, end, b'0' + (n % 10) as u8)
     }
-}
-
-// A number in decimal, and the byte that ends its field.
-pub fn put_number(text: &mut [u8], at: usize, n: u64, end: u8) -> usize
-    ensures { Laid text.old at (decimal_text n ++ (end ∷ [])) text.new result }
-{
-    let next = put_decimal(text, at, n);
-    put_byte(text, next, end)
 }
 
 // The digit of a number below 16.
-fn hex_digit(d: u64) -> u8
+fn hex_digit(d: u8) -> u8
     requires { d < 16 }
     ensures { result ≡ hex_digit d }
 {
-    if d < 10 {
-        return 48 + d as u8;
-    }
-    87 + d as u8
-}
-
-// The last k hexadecimal digits of a number.
-pub fn put_hex(text: &mut [u8], at: usize, k: usize, n: u64) -> usize
-    ensures { Laid text.old at (hex_digits k n) text.new result }
-{
-    if !has_room(text.len(), at, k) {
-        clear_from(text, 0);
-        return place_after(at, k);
-    }
-    let mut left = k;
-    let mut rest = n;
-    while left > 0 {
-        left -= 1;
-        text[at + left] = hex_digit(rest % 16);
-        rest = rest / 16;
-    }
-    at + k
-}
-
-// Bytes, each as two hexadecimal digits.
-pub fn put_pairs(text: &mut [u8], at: usize, piece: &[u8]) -> usize
-    ensures { Laid text.old at (pairs_text piece.now) text.new result }
-{
-    let n = piece.len() * 2;
-    if !has_room(text.len(), at, n) {
-        clear_from(text, 0);
-        return place_after(at, n);
-    }
-    let mut end = at;
-    let mut i = 0;
-    while i < piece.len() {
-        let b = piece[i] as u64;
-        text[end] = hex_digit(b / 16);
-        text[end + 1] = hex_digit(b % 16);
-        end += 2;
-        i += 1;
-    }
-    end
-}
-
-// `t`, bytes as pairs of digits, and the byte that ends the field.
-pub fn put_text(text: &mut [u8], at: usize, piece: &[u8], end: u8) -> usize
-    ensures { Laid text.old at (bytes "t" ++ (pairs_text piece.now ++ (end ∷ []))) text.new result }
-{
-    let t = put_byte(text, at, b't');
-    let digits = put_pairs(text, t, piece);
-    put_byte(text, digits, end)
+    if d < 10 { b'0' + d } else { b'a' - 10 + d }
 }
 
 // Zeros from a place on.
 pub fn clear_from(text: &mut [u8], from: usize)
     ensures { text.new ≡ kept_bytes text.old from }
 {
-    let mut i = from;
-    while i < text.len() {
-        text[i] = 0;
-        i += 1;
+    if from < text.len() {
+        text[from..].fill(0);
     }
 }
 
@@ -144,14 +169,4 @@ fn kept_length(len: usize, end: usize) -> usize
     ensures { result ≡ kept_length len end }
 {
     if end <= len { end } else { 0 }
-}
-
-// A text that ends at `end` stays if it fits, with zeros behind it; else there are zeros from end to end.
-pub fn keep(text: &mut [u8], end: usize) -> usize
-    ensures length { result ≡ kept_length (length text.old) end }
-    ensures bytes { text.new ≡ kept_bytes text.old result }
-{
-    let kept = kept_length(text.len(), end);
-    clear_from(text, kept);
-    kept
 }

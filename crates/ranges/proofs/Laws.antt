@@ -11,7 +11,7 @@ use mir.Val.{bool_byte}
 use lib.ListN.{length}
 use Rattle.model.specs.declared.Range.{Range}
 use Rattle.model.specs.Sheet.{CellAt, CellColumns, cell_from, cells_from, in_range}
-use Rattle.model.specs.Rule.{cells_in, each}
+use Rattle.model.specs.Rule.{cells_in}
 use Rattle.cells.specs.Columns.{cells_of, coordinate_at}
 use Rattle.cells.proofs.Laws.{cells_left, cells_none_left}
 

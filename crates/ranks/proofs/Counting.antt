@@ -1,8 +1,8 @@
 -- A value at a place of the values in order passes a test that holds of all below it exactly if more values than that pass it.
 -- Assumes nothing.
 use Rattle.std.proofs.Common.{◌≡◌, ℕ, zero, suc, ◌+◌, ◌<◌, ◌≤◌, Bool, true, false, cond, not, ◌||◌, ltb, leb, List, [], ◌∷◌}
-use Rattle.std.proofs.Common.{length, get_or, drop, sym, refl, ap, ◌∙◌, true≢false, le_of_suc-le-suc, not-suc-le-zero, add-one}
-use Rattle.std.proofs.Common.{arith, drop_of_length-le, drop-cons, ltb-false, ltb-true, le-ltb, lt-ltb, leb-true}
+use Rattle.std.proofs.Common.{length, get_or, sym, refl, ap, ◌∙◌, true≢false, le_of_suc-le-suc, not-suc-le-zero}
+use Rattle.std.proofs.Common.{arith, ltb-false, ltb-true, le-ltb, lt-ltb, leb-true}
 use mathlib.Core.Bool.{false≢true}
 use mathlib.Core.List.Perm
 use mathlib.Core.List.{Mem, mem-cons_self, mem-cons_of_mem}
@@ -18,7 +18,9 @@ use Rattle.laws.proofs.Covered.{and_true}
 use Rattle.laws.proofs.Sorting.{Each, each_permuted, sort_by_permutesᴰ}
 use Rattle.laws.proofs.FloatOrder.{Finite, lt_order, comes_before_order, le_not_less}
 use Rattle.laws.proofs.Values.{sorted_permutes, sorted_length, sorted_ordered, sorted_rises}
-use Rattle.ranks.specs.Counts.{count_by, below, up_to, ahead, stands_at}
+use Rattle.std.specs.List.{count_by}
+use Rattle.std.proofs.lemmas.List.Sums.{sum_by-cons}
+use Rattle.ranks.specs.Counts.{below, up_to, ahead, stands_at}
 
 ltb_more : (a b : ℕ) → ltb (suc a) (1 + b) ≡ ltb a b
 ltb_more a b = decided (ltb a b) refl
@@ -35,36 +37,26 @@ get_d_member (x ∷ xs) (suc i) d h = mem-cons_of_mem x (get_d_member xs i d (le
 -- ---- counts
 
 module _ {A : Type 0} (test : A → Bool) where
-  -- no more elements pass than there are
-  pub count_most : (xs : List A) → count_by test xs ≤ length xs
-  unfolding count_by
-  count_most [] = omega arith
-  count_most (x ∷ xs) = more (test x) (count_most xs)
-    where
-      more : (b : Bool) → count_by test xs ≤ length xs → cond b 1 0 + count_by test xs ≤ suc (length xs)
-      more true h = omega arith
-      more false h = omega arith
+  count_cons : (x : A) (xs : List A) → count_by test (x ∷ xs) ≡ cond (test x) 1 0 + count_by test xs
+  count_cons = sum_by-cons (λ a. cond (test a) 1 0)
 
   count_none : (xs : List A) → Each (λ a. test a ≡ false) xs → count_by test xs ≡ 0
-  unfolding count_by
   count_none [] h = refl
-  count_none (x ∷ xs) h = rw (h x mem-cons_self, count_none xs (λ a m. h a (mem-cons_of_mem x m)))
+  count_none (x ∷ xs) h = rw (count_cons x xs, h x mem-cons_self, count_none xs (λ a m. h a (mem-cons_of_mem x m)))
 
   -- a permutation has as many
   pub count_permuted : {xs ys : List A} → Permᴰ xs ys → count_by test xs ≡ count_by test ys
-  unfolding count_by
   count_permuted Permᴰ.nil = refl
-  count_permuted (Permᴰ.cons e p) = λ i. cond (test (e i)) 1 0 + count_permuted p i
+  count_permuted (Permᴰ.cons e p) = simp count_cons (λ i. cond (test (e i)) 1 0 + count_permuted p i)
   count_permuted (Permᴰ.swap {l = l} e f) =
-      add_left_comm _ _ (count_by test l) ∙ λ i. cond (test (f i)) 1 0 + (cond (test (e i)) 1 0 + count_by test l)
+      simp count_cons (add_left_comm _ _ (count_by test l) ∙ λ i. cond (test (f i)) 1 0 + (cond (test (e i)) 1 0 + count_by test l))
   count_permuted (Permᴰ.trans p q) = count_permuted p ∙ count_permuted q
 
   -- of elements none of which passes after one that does not, the one at k passes exactly if more than k pass
   pub at_counted : (ys : List A) (k : ℕ) (d : A) → Pairwise (λ x y. test y ≡ true → test x ≡ true) ys → k < length ys
       → test (get_or ys k d) ≡ ltb k (count_by test ys)
-  unfolding count_by
   at_counted [] k d h r = absurd (not-suc-le-zero r)
-  at_counted (y ∷ ys) k d h r = decided (test y) refl k r (λ j s. at_counted ys j d (Pairwise.of_cons h) s)
+  at_counted (y ∷ ys) k d h r = rw (count_cons y ys) (decided (test y) refl k r (λ j s. at_counted ys j d (Pairwise.of_cons h) s))
     where
       count : ℕ
       count = count_by test ys
@@ -85,26 +77,6 @@ module _ {A : Type 0} (test : A → Bool) where
       decided false e (suc j) s later =
           let none = count_none ys (none_later e) in
           later j (le_of_suc-le-suc s) ∙ le-ltb j count (omega arith) ∙ sym (le-ltb (suc j) (0 + count) (omega arith))
-
--- ---- counting one by one: n passed so far, of the elements before i
-
-module _ {A : Type 0} (test : A → Bool) (xs : List A) (i n : ℕ) where
-  abbrev pub Counted : Type 0
-  Counted = n + count_by test (drop i xs) ≡ count_by test xs
-
-  pub counted_more : (d : A) → i < length xs → Counted → test (get_or xs i d) ≡ true
-      → n + 1 + count_by test (drop (i + 1) xs) ≡ count_by test xs
-  unfolding count_by
-  counted_more d h e t = let f = rw (drop-cons xs i d h, t) at e in rw (add-one i) (omega arith)
-
-  pub counted_past : (d : A) → i < length xs → Counted → test (get_or xs i d) ≡ false
-      → n + count_by test (drop (i + 1) xs) ≡ count_by test xs
-  unfolding count_by
-  counted_past d h e t = let f = rw (drop-cons xs i d h, t) at e in rw (add-one i) (omega arith)
-
-  pub counted_all : length xs ≤ i → Counted → n ≡ count_by test xs
-  unfolding count_by
-  counted_all h e = let f = rw drop_of_length-le at e in omega arith
 
 -- ---- tests of finite floats that hold of all below
 

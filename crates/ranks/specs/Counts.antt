@@ -1,11 +1,7 @@
--- How many values pass a test. Assumes nothing.
-use Rattle.std.specs.Prelude.{ℕ, ◌+◌, Bool, cond, ◌&&◌, List, [], ◌∷◌, nat_le, nat_lt, Float}
+-- How many values pass a test by order. Assumes nothing.
+use Rattle.std.specs.Prelude.{ℕ, Bool, ◌&&◌, List, nat_le, nat_lt, Float, count_by}
 use Rattle.std.specs.Float.Ieee.{lt, le}
 use Rattle.model.specs.Values.{comes_before}
-
-unfoldable pub count_by : {A : Type 0} → (A → Bool) → List A → ℕ
-count_by test [] = 0
-count_by test (x ∷ xs) = cond (test x) 1 0 + count_by test xs
 
 -- how many values are less than t, how many are at most t, and how many come before t
 abbrev pub below : Float → List Float → ℕ

@@ -1,4 +1,4 @@
-// How many values are less than a float, at most it, or ahead of +0; and what the counts tell.
+// How many values are less than a float, at most it, or ahead of +0; and what the counts tell. No branch depends on a value.
 ghost use Rattle.std.specs.Prelude.{◌≡◌};
 ghost use Rattle.model.specs.Ratio.{zero_f};
 ghost use Rattle.model.specs.Values.{comes_before};
@@ -8,13 +8,11 @@ ghost use Rattle.ranks.specs.Finite.{all_finite};
 pub(crate) fn count_below(values: &[f64], t: f64) -> usize
     ensures { result ≡ below t values.now }
 {
-    let mut count: usize = 0;
-    let mut i = 0;
-    while i < values.len() {
-        if values[i] < t {
+    let mut count = 0;
+    for x in values {
+        if *x < t {
             count += 1;
         }
-        i += 1;
     }
     count
 }
@@ -22,13 +20,11 @@ pub(crate) fn count_below(values: &[f64], t: f64) -> usize
 pub(crate) fn count_up_to(values: &[f64], t: f64) -> usize
     ensures { result ≡ up_to t values.now }
 {
-    let mut count: usize = 0;
-    let mut i = 0;
-    while i < values.len() {
-        if values[i] <= t {
+    let mut count = 0;
+    for x in values {
+        if *x <= t {
             count += 1;
         }
-        i += 1;
     }
     count
 }
@@ -45,13 +41,11 @@ fn is_ahead_of_zero(x: f64) -> bool
 pub(crate) fn count_ahead_of_zero(values: &[f64]) -> usize
     ensures { result ≡ ahead zero_f values.now }
 {
-    let mut count: usize = 0;
-    let mut i = 0;
-    while i < values.len() {
-        if is_ahead_of_zero(values[i]) {
+    let mut count = 0;
+    for x in values {
+        if is_ahead_of_zero(*x) {
             count += 1;
         }
-        i += 1;
     }
     count
 }
@@ -63,20 +57,15 @@ pub(crate) fn stands_at(values: &[f64], k: usize, t: f64) -> bool
     count_below(values, t) <= k && k < count_up_to(values, t)
 }
 
-// Finite values are all less than ∞ and greater than -∞. No branch depends on a value.
+// Finite values are all less than ∞ and greater than -∞. All are looked at.
 pub(crate) fn all_finite(values: &[f64]) -> bool
     ensures { result ≡ all_finite values.now }
 {
-    let low = -1.0 / 0.0;
-    let high = 1.0 / 0.0;
-    let mut count: usize = 0;
-    let mut i = 0;
-    while i < values.len() {
-        let x = values[i];
-        if (low < x) & (x < high) {
+    let mut count = 0;
+    for x in values {
+        if (f64::NEG_INFINITY < *x) & (*x < f64::INFINITY) {
             count += 1;
         }
-        i += 1;
     }
     count == values.len()
 }

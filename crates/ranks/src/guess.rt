@@ -1,10 +1,10 @@
 // What to try next. How many passes a search takes turns on it, and no answer: so little is promised.
-// Turns go by six: a value of the slice and by rank, twice, then a value and halfway by key. The last bounds their number.
 ghost use Rattle.std.specs.Prelude.{◌<◌, ◌≤◌};
 
 use crate::key::{key_of, of_key};
 use readings::number::is_finite;
 use std::num::nearest_u64_to_f64;
+use values::{Bounds, greater, lesser};
 
 // Where the value sought stands: its key is at least lo and less than hi, and so many values are below either.
 #[derive(Clone, Copy)]
@@ -15,40 +15,62 @@ pub(crate) struct Span {
     pub(crate) upper: usize,
 }
 
-// About the least and the greatest value.
+// What is tried in a turn: a value of the slice, a key by rank, or the key halfway. The last bounds the number of turns.
 #[derive(Clone, Copy)]
-struct Ends {
-    least: f64,
-    greatest: f64,
+pub(crate) enum Turn {
+    FirstValue,
+    FirstRank,
+    SecondValue,
+    SecondRank,
+    ThirdValue,
+    Halfway,
 }
 
-// A key from `first` on and below hi: the one proposed, or the middle one.
-pub(crate) fn between(first: u64, hi: u64, proposed: u64) -> u64
+impl Turn {
+    pub(crate) fn next(self) -> Turn {
+        match self {
+            Turn::FirstValue => Turn::FirstRank,
+            Turn::FirstRank => Turn::SecondValue,
+            Turn::SecondValue => Turn::SecondRank,
+            Turn::SecondRank => Turn::ThirdValue,
+            Turn::ThirdValue => Turn::Halfway,
+            Turn::Halfway => Turn::FirstValue,
+        }
+    }
+
+    fn takes_value(self) -> bool {
+        match self {
+            Turn::FirstValue | Turn::SecondValue | Turn::ThirdValue => true,
+            Turn::FirstRank | Turn::SecondRank | Turn::Halfway => false,
+        }
+    }
+}
+
+// A key from `first` on and below hi: the one proposed, or else the middle one.
+pub(crate) fn between(first: u64, hi: u64, proposed: Option<u64>) -> u64
     requires { first < hi }
     ensures { (first ≤ result) × (result < hi) }
 {
-    if first <= proposed && proposed < hi {
-        return proposed;
+    match proposed {
+        Some(key) if first <= key && key < hi => key,
+        _ => first + (hi - first) / 2,
     }
-    first + (hi - first) / 2
 }
 
 // ---- a value of the slice
 
-// The first index from `at` on whose value is at least a and at most z; the length if there is none. The product comes first, since
-// each of the two comparisons is as often true as not, and a branch on it would be guessed wrong.
-fn scan(values: &[f64], at: usize, a: f64, z: f64) -> usize {
-    let mut i = at;
-    while i < values.len() {
+// The first value from `at` on that is at least a and at most z. The product comes first, since each of the two comparisons is as often
+// true as not, and a branch on it would be guessed wrong.
+fn scan(values: &[f64], at: usize, a: f64, z: f64) -> Option<f64> {
+    for i in at..values.len() {
         let x = values[i];
         if !((x - a) * (z - x) < 0.0) {
             if a <= x && x <= z {
-                return i;
+                return Some(x);
             }
         }
-        i += 1;
     }
-    values.len()
+    None
 }
 
 // The index to look from: rising values have the value sought at k, falling values as far from the end.
@@ -63,64 +85,34 @@ fn likely_index(values: &[f64], k: usize) -> usize {
     k
 }
 
-// The key of a value in the span: the first from the likely index on, or else from the front. Of none it is 0, which is below all keys.
-fn key_sought(values: &[f64], k: usize, span: Span) -> u64 {
-    if span.hi == 0 {
-        return 0;
-    }
+// The key of a value in the span: the first from the likely index on, or else from the front.
+fn key_sought(values: &[f64], k: usize, span: Span) -> Option<u64> {
     let a = of_key(span.lo);
-    let z = of_key(span.hi - 1);
-    let mut i = scan(values, likely_index(values, k), a, z);
-    if i == values.len() {
-        i = scan(values, 0, a, z);
+    let z = of_key(span.hi.checked_sub(1)?);
+    match scan(values, likely_index(values, k), a, z) {
+        Some(x) => key_of(x),
+        None => key_of(scan(values, 0, a, z)?),
     }
-    if i < values.len() {
-        return key_of(values[i]);
-    }
-    0
 }
 
 // ---- by rank
 
-fn lesser(x: f64, y: f64) -> f64 {
-    if y < x { y } else { x }
-}
-
-fn greater(x: f64, y: f64) -> f64 {
-    if x < y { y } else { x }
-}
-
 // Four side by side, so that none waits for another. Up to three values at the end are left out.
-fn ends_of(values: &[f64]) -> Ends {
-    let mut low1 = 1.0 / 0.0;
-    let mut low2 = low1;
-    let mut low3 = low1;
-    let mut low4 = low1;
-    let mut high1 = -1.0 / 0.0;
-    let mut high2 = high1;
-    let mut high3 = high1;
-    let mut high4 = high1;
-    let fours = values.len() / 4;
-    let mut i = 0;
-    while i < fours {
-        let x1 = values[4 * i];
-        let x2 = values[4 * i + 1];
-        let x3 = values[4 * i + 2];
-        let x4 = values[4 * i + 3];
-        low1 = lesser(low1, x1);
-        low2 = lesser(low2, x2);
-        low3 = lesser(low3, x3);
-        low4 = lesser(low4, x4);
-        high1 = greater(high1, x1);
-        high2 = greater(high2, x2);
-        high3 = greater(high3, x3);
-        high4 = greater(high4, x4);
-        i += 1;
+fn ends_of(values: &[f64]) -> Bounds {
+    let mut part1 = Bounds {
+        least: f64::INFINITY,
+        greatest: f64::NEG_INFINITY,
+    };
+    let mut part2 = part1;
+    let mut part3 = part1;
+    let mut part4 = part1;
+    for i in 0..values.len() / 4 {
+        part1 = part1.with(values[4 * i]);
+        part2 = part2.with(values[4 * i + 1]);
+        part3 = part3.with(values[4 * i + 2]);
+        part4 = part4.with(values[4 * i + 3]);
     }
-    Ends {
-        least: lesser(lesser(low1, low3), lesser(low2, low4)),
-        greatest: greater(greater(high1, high3), greater(high2, high4)),
-    }
+    part1.joined(part3).joined(part2.joined(part4))
 }
 
 fn number(n: usize) -> f64 {
@@ -128,7 +120,7 @@ fn number(n: usize) -> f64 {
 }
 
 // As far between the ends of the span as k is between their ranks. In place of an infinite end stands that of the values.
-fn by_rank(values: &[f64], k: usize, span: Span) -> u64 {
+fn by_rank(values: &[f64], k: usize, span: Span) -> Option<u64> {
     let mut a = of_key(span.lo);
     let mut z = of_key(span.hi);
     if !is_finite(a) || !is_finite(z) {
@@ -148,21 +140,15 @@ fn is_first(k: usize, span: Span) -> bool {
 }
 
 fn is_last(k: usize, span: Span) -> bool {
-    k < span.upper && span.upper - k == 1
+    span.upper.saturating_sub(k) == 1
 }
 
-// 0: a value, which may be that of lo; 1: a key above lo.
-pub(crate) fn step(k: usize, span: Span, turn: u64) -> u64
-    ensures { result ≤ 1 }
-{
-    if turn % 2 == 0 || is_first(k, span) || is_last(k, span) {
-        return 0;
-    }
-    1
+// Whether a value is tried, which may be that of lo; or else a key above lo.
+pub(crate) fn takes_value(k: usize, span: Span, turn: Turn) -> bool {
+    turn.takes_value() || is_first(k, span) || is_last(k, span)
 }
 
-// What is no key of the span makes `between` take the middle one.
-pub(crate) fn proposed(values: &[f64], k: usize, span: Span, turn: u64) -> u64 {
+pub(crate) fn proposed(values: &[f64], k: usize, span: Span, turn: Turn) -> Option<u64> {
     if is_first(k, span) {
         return key_of(least_from(values, of_key(span.lo)));
     }
@@ -170,39 +156,27 @@ pub(crate) fn proposed(values: &[f64], k: usize, span: Span, turn: u64) -> u64 {
         return key_of(greatest_below(values, of_key(span.hi)));
     }
     match turn {
-        1 => by_rank(values, k, span),
-        3 => by_rank(values, k, span),
-        5 => 0,
-        _ => key_sought(values, k, span),
+        Turn::FirstRank | Turn::SecondRank => by_rank(values, k, span),
+        Turn::Halfway => None,
+        Turn::FirstValue | Turn::SecondValue | Turn::ThirdValue => key_sought(values, k, span),
     }
-}
-
-pub(crate) fn next_turn(turn: u64) -> u64 {
-    if turn < 5 {
-        return turn + 1;
-    }
-    0
 }
 
 // ---- the values next to a float
 
 // The greater of g and x, if x is less than t; low is a float that nothing is less than.
 fn raised(g: f64, x: f64, t: f64, low: f64) -> f64 {
-    let y = if x < t { x } else { low };
-    if g < y { y } else { g }
+    greater(g, if x < t { x } else { low })
 }
 
 // The greatest of the values less than t; -∞ if there is none. Two side by side: the machine takes two floats at a time.
 pub(crate) fn greatest_below(values: &[f64], t: f64) -> f64 {
-    let low = -1.0 / 0.0;
+    let low = f64::NEG_INFINITY;
     let mut g = low;
     let mut h = low;
-    let pairs = values.len() / 2;
-    let mut i = 0;
-    while i < pairs {
+    for i in 0..values.len() / 2 {
         g = raised(g, values[2 * i], t, low);
         h = raised(h, values[2 * i + 1], t, low);
-        i += 1;
     }
     if values.len() % 2 == 1 {
         g = raised(g, values[values.len() - 1], t, low);
@@ -212,21 +186,17 @@ pub(crate) fn greatest_below(values: &[f64], t: f64) -> f64 {
 
 // The lesser of l and x, unless x is less than t; high is a float that nothing is greater than.
 fn lowered(l: f64, x: f64, t: f64, high: f64) -> f64 {
-    let y = if x < t { high } else { x };
-    if y < l { y } else { l }
+    lesser(l, if x < t { high } else { x })
 }
 
 // The least of the values not less than t; ∞ if there is none.
 fn least_from(values: &[f64], t: f64) -> f64 {
-    let high = 1.0 / 0.0;
+    let high = f64::INFINITY;
     let mut l = high;
     let mut m = high;
-    let pairs = values.len() / 2;
-    let mut i = 0;
-    while i < pairs {
+    for i in 0..values.len() / 2 {
         l = lowered(l, values[2 * i], t, high);
         m = lowered(m, values[2 * i + 1], t, high);
-        i += 1;
     }
     if values.len() % 2 == 1 {
         l = lowered(l, values[values.len() - 1], t, high);

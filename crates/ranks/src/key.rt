@@ -13,14 +13,14 @@ pub(crate) fn of_key(key: u64) -> f64
     float_of_bits(key - 0x8000_0000_0000_0000)
 }
 
-// The key of a finite number; of another, 0. It is only proposed: no answer turns on it.
-pub(crate) fn key_of(x: f64) -> u64 {
+// The key of a finite number. It is only proposed: no answer turns on it.
+pub(crate) fn key_of(x: f64) -> Option<u64> {
     if !is_finite(x) {
-        return 0;
+        return None;
     }
     let bits = f64::to_bits(x);
     if bits < 0x8000_0000_0000_0000 {
-        return bits + 0x8000_0000_0000_0000;
+        return Some(bits + 0x8000_0000_0000_0000);
     }
-    0xffff_ffff_ffff_ffff - bits
+    Some(0xffff_ffff_ffff_ffff - bits)
 }

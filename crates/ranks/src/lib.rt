@@ -5,15 +5,14 @@ mod count;
 mod guess;
 mod key;
 
-ghost use Rattle.std.specs.Prelude.{◌≡◌, ◌-◌, ◌<◌, true, length};
+ghost use Rattle.std.specs.Prelude.{◌≡◌, ◌<◌, true, length};
 ghost use Rattle.std.specs.Float.Ieee.{eq};
 ghost use Rattle.model.specs.Values.{sorted, value_at, midpoint, threshold};
 ghost use Rattle.ranks.specs.Finite.{all_finite, if_finite};
 
 use crate::count::{all_finite, count_ahead_of_zero, count_below, count_up_to, stands_at};
-use crate::guess::{Span, between, greatest_below, next_turn, proposed, step};
+use crate::guess::{Span, Turn, between, greatest_below, proposed, takes_value};
 use crate::key::of_key;
-use model::Reading;
 
 // ---- the value at k
 
@@ -24,39 +23,37 @@ fn near_value(values: &[f64], k: usize) -> f64
     requires k_in_bounds { k < length values.now }
     ensures { eq (value_at (sorted values.now) k) result ≡ true }
 {
-    // the keys of -∞ and ∞
-    let mut lo = 0x000f_ffff_ffff_ffff;
-    let mut hi = 0xfff0_0000_0000_0000;
-    let mut below = 0;
-    let mut upper = values.len();
-    let mut turn = 0;
-    while hi - lo > 1 {
-        let span = Span {
-            lo,
-            hi,
-            below,
-            upper,
-        };
-        let first = step(k, span, turn);
-        let mid = between(lo + first, hi, proposed(values, k, span, turn));
+    // from the key of -∞ to that of ∞
+    let mut span = Span {
+        lo: 0x000f_ffff_ffff_ffff,
+        hi: 0xfff0_0000_0000_0000,
+        below: 0,
+        upper: values.len(),
+    };
+    let mut turn = Turn::FirstValue;
+    // a `while`: the span is halved until no key is inside
+    'halving: while span.hi - span.lo > 1 {
+        let valued = takes_value(k, span, turn);
+        let first = if valued { span.lo } else { span.lo + 1 };
+        let mid = between(first, span.hi, proposed(values, k, span, turn));
         let t = of_key(mid);
         let less = count_below(values, t);
         if k < less {
-            hi = mid;
-            upper = less;
-        } else if first == 0 {
-            below = count_up_to(values, t);
-            if k < below {
+            span.hi = mid;
+            span.upper = less;
+        } else if valued {
+            span.below = count_up_to(values, t);
+            if k < span.below {
                 return t;
             }
-            lo = mid + 1;
+            span.lo = mid + 1;
         } else {
-            lo = mid;
-            below = less;
+            span.lo = mid;
+            span.below = less;
         }
-        turn = next_turn(turn);
+        turn = turn.next();
     }
-    of_key(lo)
+    of_key(span.lo)
 }
 
 // The value at k, from a float that is equal to it as a number. Each -0 stands ahead of each +0.
@@ -81,7 +78,7 @@ fn kth_value(values: &[f64], k: usize) -> f64
     ensures { result ≡ value_at (sorted values.now) k }
 {
     if values.len() <= k {
-        return 0.0 / 0.0;
+        return f64::NAN;
     }
     signed(values, k, near_value(values, k))
 }
@@ -92,7 +89,7 @@ fn prior_value(values: &[f64], k: usize, next: f64) -> f64
     ensures { result ≡ value_at (sorted values.now) k }
 {
     if values.len() <= k {
-        return 0.0 / 0.0;
+        return f64::NAN;
     }
     if stands_at(values, k, next) {
         return signed(values, k, next);
@@ -106,40 +103,31 @@ fn prior_value(values: &[f64], k: usize, next: f64) -> f64
 
 // ---- midpoint and rank
 
-fn saturating_sub(a: usize, b: usize) -> usize
-    ensures { result ≡ a - b }
-{
-    if a < b {
-        return 0;
-    }
-    a - b
-}
-
 // Port of percentile_50 (conditional.rs), of values in any order. Nothing if a value is not finite; of no values it is not-a-number.
-pub fn midpoint(values: &[f64]) -> Reading
+pub fn midpoint(values: &[f64]) -> Option<f64>
     ensures { result ≡ if_finite values.now (midpoint (sorted values.now)) }
 {
     if !all_finite(values) {
-        return Reading::Nothing;
+        return None;
     }
     let upper = values.len() / 2;
     let high = kth_value(values, upper);
     if values.len() % 2 == 0 {
-        let low = prior_value(values, saturating_sub(upper, 1), high);
-        return Reading::Number(low / 2.0 + high / 2.0);
+        let low = prior_value(values, upper.saturating_sub(1), high);
+        return Some(low / 2.0 + high / 2.0);
     }
-    Reading::Number(high)
+    Some(high)
 }
 
 // Port of the threshold of CfRule::TopBottom (conditional.rs), of values in any order. Nothing if a value is not finite.
-pub fn threshold(bottom: bool, count: usize, values: &[f64]) -> Reading
+pub fn threshold(bottom: bool, count: usize, values: &[f64]) -> Option<f64>
     ensures { result ≡ if_finite values.now (threshold bottom count (sorted values.now)) }
 {
     if !all_finite(values) {
-        return Reading::Nothing;
+        return None;
     }
     if bottom {
-        return Reading::Number(kth_value(values, saturating_sub(count, 1)));
+        return Some(kth_value(values, count.saturating_sub(1)));
     }
-    Reading::Number(kth_value(values, saturating_sub(values.len(), count)))
+    Some(kth_value(values, values.len().saturating_sub(count)))
 }

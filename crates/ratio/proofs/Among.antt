@@ -6,7 +6,7 @@ use Prim.Native.Nat.{ℕ, ◌+◌, ◌-◌, ◌*◌, ◌/◌, ◌≤◌, ◌<◌
 use native.Mathlib.Omega.{arith}
 use lib.Dec.{leb}
 use lib.Ieee.{Float}
-use borrow.Author.Tests.{leb-true, leb-false, lt-leb}
+use borrow.Author.Tests.{leb-true, leb-false}
 use Rattle.model.specs.Ratio.{channel, interpolate_rgb}
 use Rattle.model.specs.declared.Rgb.{Rgb}
 use Rattle.ratio.specs.Spanned.{spanned}
@@ -85,27 +85,6 @@ pub by_channel : (t : Bool) (first middle last : Rgb) (p q : ℕ) {r g b : ℕ}
 unfolding interpolate_rgb
 by_channel true first middle last p q x y z = simp (x, y, z)
 by_channel false first middle last p q x y z = simp (x, y, z)
-
--- above 2,000,000 there is nothing more
-pub held_place : (first middle last : Rgb) (place : ℕ)
-    → cond (leb (min place 2_000_000) 1_000_000) (interpolate_rgb first middle (min place 2_000_000))
-    (interpolate_rgb middle last (min place 2_000_000 - 1_000_000))
-    ≡ cond (leb place 1_000_000) (interpolate_rgb first middle place) (interpolate_rgb middle last (min (place - 1_000_000) 1_000_000))
-held_place first middle last place = by (leb place 1_000_000) refl
-  where
-    by : (t : Bool) → leb place 1_000_000 ≡ t
-        → cond (leb (min place 2_000_000) 1_000_000) (interpolate_rgb first middle (min place 2_000_000))
-        (interpolate_rgb middle last (min place 2_000_000 - 1_000_000))
-        ≡ cond t (interpolate_rgb first middle place) (interpolate_rgb middle last (min (place - 1_000_000) 1_000_000))
-    by true p =
-        let b : place ≤ 1_000_000 = leb-true _ _ p in
-        let e : min place 2_000_000 ≡ place = omega arith in
-        rw (e, p)
-    by false p =
-        let b : 1_000_000 < place = leb-false _ _ p in
-        let n : leb (min place 2_000_000) 1_000_000 ≡ false = lt-leb (min place 2_000_000) 1_000_000 (omega arith) in
-        let e : min place 2_000_000 - 1_000_000 ≡ min (place - 1_000_000) 1_000_000 = omega arith in
-        rw (n, e)
 
 -- ---- the place of a value
 

@@ -111,23 +111,15 @@ pub fn bar_cells(ppm: u32) -> u32
     ensures { result ≡ bar_cells ppm }
 {
     let cells = (40 * (ppm as u64) / 1_000_000) as u32;
-    let least = if ppm == 0 { 0 } else { 1 };
-    if cells < least { least } else { cells }
+    cells.max(ppm.min(1))
 }
 
 // ---- colour
 
-// Rust's `q.clamp(0, 255)`.
 fn held_to_byte(q: i64) -> u8
     ensures { result ≡ held_to_byte q }
 {
-    if q < 0 {
-        return 0;
-    }
-    if q > 255 {
-        return 255;
-    }
-    q as u8
+    q.clamp(0, 255) as u8
 }
 
 // `channel` at a ratio of at most 1,000,000: the channel is between its ends, so a u32 holds each part and nothing is to be held.
@@ -189,8 +181,7 @@ pub fn packed(c: Rgb) -> u32
 pub fn blended(first: Rgb, last: Rgb, ppm: u32) -> u32
     ensures { result ≡ packed (interpolate_rgb first last (min ppm 1_000_000)) }
 {
-    let held = if ppm < 1_000_000 { ppm } else { 1_000_000 };
-    packed(interpolate_within(first, last, held))
+    packed(interpolate_within(first, last, ppm.min(1_000_000)))
 }
 
 // A channel at a place among three colours: it goes one product from the first to the middle, and another from there to the last.
@@ -198,7 +189,7 @@ fn channel_among(first: u8, middle: u8, last: u8, place: u32) -> u8
     requires { place ≤ 2_000_000 }
     ensures { result ≡ cond (leb place 1_000_000) (channel first middle place) (channel middle last (place - 1_000_000)) }
 {
-    let lower = if place < 1_000_000 { place } else { 1_000_000 };
+    let lower = place.min(1_000_000);
     let raised = 1_000_000 * (first as u32) + 500_000;
     let rise = (middle as u32) + 256 - (first as u32);
     let onward = (last as u32) + 256 - (middle as u32);
@@ -221,6 +212,5 @@ pub fn blended_among(first: Rgb, middle: Rgb, last: Rgb, place: u32) -> u32
     ensures { result ≡ packed (cond (leb place 1_000_000) (interpolate_rgb first middle place)
         (interpolate_rgb middle last (min (place - 1_000_000) 1_000_000))) }
 {
-    let held = if place < 2_000_000 { place } else { 2_000_000 };
-    packed(interpolate_among(first, middle, last, held))
+    packed(interpolate_among(first, middle, last, place.min(2_000_000)))
 }

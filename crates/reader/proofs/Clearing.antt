@@ -1,9 +1,10 @@
 -- What is lent after a job text: the job where one was read that fits, zeros from end to end where it was refused. Assumes nothing.
 use Prim.Native.Nat.{ℕ}
-use mathlib.Core.Path.{◌≡◌, refl, sym, ap, ◌∙◌}
+use mathlib.Core.Path.{◌≡◌, refl, sym, ◌∙◌}
 use mathlib.Core.Bool.{Bool, true, false, cond}
 use mathlib.Core.List.{List}
-use native.Mathlib.Omega.{arith}
+use Rattle.std.specs.Prelude.{Result, Ok, Err}
+use Rattle.std.specs.Result.{is_err}
 use lib.ListN.{length}
 use Rattle.memory.proofs.Laws.{page_refused}
 use Rattle.model.specs.Sheet.{CellColumns}
@@ -14,7 +15,8 @@ use Rattle.celllines.specs.Columns.{zero_columns, zeroed}
 use Rattle.celllines.proofs.Sections.{Long}
 use Rattle.celllines.proofs.Whole.{blank_long}
 use Rattle.reader.specs.declared.ReadJob.{ReadJob}
-use Rattle.reader.specs.Held.{refused_as, taken_as, Held, held, fits_in, laid_in, cleared, read_job, held_after}
+use Rattle.reader.specs.declared.Unread.{Unread}
+use Rattle.reader.specs.Held.{taken_as, Held, held, fits_in, laid_in, cleared, read_job, held_after}
 use Rattle.reader.specs.Results.{JobLeft}
 
 -- a memory that is refused
@@ -23,27 +25,24 @@ none_held j h = simp (page_refused {A = ℕ} 0)
 
 module _ (h e : Held) where
   -- where a job was read that fits, and where none was
-  job_held : {j : ReadJob} (z : ReadResult) → j ≡ read_job h z → j.number ≡ 0 → JobLeft z h e → e ≡ held_after z h
+  job_held : {j : Result ReadJob Unread} (z : ReadResult) → j ≡ read_job h z → is_err j ≡ false → JobLeft z h e → e ≡ held_after z h
   unfolding read_job held_after
   job_held {j} (ReadResult.is k) x n l = go (fits_in (laid k) h) x l
     where
-      go : (b : Bool) → j ≡ cond b (taken_as (laid k) k.limit) (refused_as 6 0 k.start) → (b ≡ true → e ≡ laid_in true (laid k) h)
-          → e ≡ laid_in b (laid k) h
+      go : (b : Bool) → j ≡ cond b (Ok (taken_as (laid k) k.limit)) (Err (Unread.SpaceShort k.start))
+          → (b ≡ true → e ≡ laid_in true (laid k) h) → e ≡ laid_in b (laid k) h
       go true x l = l refl
-      go false x l = let w : ◌≡◌ {A = ℕ} 6 0 = sym (ap (λ (j : ReadJob). j.number) x) ∙ n in absurd (omega arith)
-  job_held ReadResult.too_long x n l =
-      let w : ◌≡◌ {A = ℕ} 10 0 = sym (ap (λ (j : ReadJob). j.number) x) ∙ n in absurd (omega arith)
-  job_held (ReadResult.bad_line line) x n l =
-      let w : ◌≡◌ {A = ℕ} 11 0 = sym (ap (λ (j : ReadJob). j.number) x) ∙ n in absurd (omega arith)
-  job_held (ReadResult.too_many start) x n l =
-      let w : ◌≡◌ {A = ℕ} 2 0 = sym (ap (λ (j : ReadJob). j.number) x) ∙ n in absurd (omega arith)
+      go false x l = let w = rw x at n in absurd (cc)
+  job_held ReadResult.too_long x n l = let w = rw x at n in absurd (cc)
+  job_held (ReadResult.bad_line line) x n l = let w = rw x at n in absurd (cc)
+  job_held (ReadResult.too_many start) x n l = let w = rw x at n in absurd (cc)
 
-  job_cleared : {j : ReadJob} (z : ReadResult) → j ≡ read_job h z → (j.number ≡ 0 → ⊥) → e ≡ cleared h → e ≡ held_after z h
+  job_cleared : {j : Result ReadJob Unread} (z : ReadResult) → j ≡ read_job h z → is_err j ≡ true → e ≡ cleared h → e ≡ held_after z h
   unfolding read_job held_after
   job_cleared {j} (ReadResult.is k) x n c = go (fits_in (laid k) h) x
     where
-      go : (b : Bool) → j ≡ cond b (taken_as (laid k) k.limit) (refused_as 6 0 k.start) → e ≡ laid_in b (laid k) h
-      go true x = absurd (n (ap (λ (j : ReadJob). j.number) x))
+      go : (b : Bool) → j ≡ cond b (Ok (taken_as (laid k) k.limit)) (Err (Unread.SpaceShort k.start)) → e ≡ laid_in b (laid k) h
+      go true x = let w = rw x at n in absurd (cc)
       go false x = c ∙ sym (none_held (laid k) h)
   job_cleared ReadResult.too_long x n c = c
   job_cleared (ReadResult.bad_line line) x n c = c
@@ -66,12 +65,12 @@ Kept m rows₁ cols₁ pool₁ d rows cols pool =
     × (Same m.lens d.lens × (Same rows₁ rows × (Same cols₁ cols × (Same pool₁ pool × Unit {0})))))))))
 
 module _ (z : ReadResult) (d : CellColumns) (rows cols pool : List ℕ) where
-  pub job_taken : {j : ReadJob} (e : Held) → j.number ≡ 0 → (j ≡ read_job (held d rows cols pool) z) × JobLeft z (held d rows cols pool) e
+  pub job_taken : {j : Result ReadJob Unread} (e : Held) → is_err j ≡ false → (j ≡ read_job (held d rows cols pool) z) × JobLeft z (held d rows cols pool) e
       → (j ≡ read_job (held d rows cols pool) z) × (e ≡ held_after z (held d rows cols pool))
   job_taken e n x = (x.0, job_held (held d rows cols pool) e z x.0 n x.1)
 
-  pub job_refused : {j : ReadJob} {e : CellColumns} {rows₂ cols₂ pool₂ : List ℕ} (m : CellColumns) (rows₁ cols₁ pool₁ : List ℕ)
-      → j ≡ read_job (held d rows cols pool) z → (j.number ≡ 0 → ⊥) → Kept m rows₁ cols₁ pool₁ d rows cols pool
+  pub job_refused : {j : Result ReadJob Unread} {e : CellColumns} {rows₂ cols₂ pool₂ : List ℕ} (m : CellColumns) (rows₁ cols₁ pool₁ : List ℕ)
+      → j ≡ read_job (held d rows cols pool) z → is_err j ≡ true → Kept m rows₁ cols₁ pool₁ d rows cols pool
       → e ≡ zero_columns m → rows₂ ≡ zeroed rows₁ → cols₂ ≡ zeroed cols₁ → pool₂ ≡ zeroed pool₁
       → (j ≡ read_job (held d rows cols pool) z) × (held e rows₂ cols₂ pool₂ ≡ held_after z (held d rows cols pool))
   job_refused {e = e} {rows₂ = rows₂} {cols₂ = cols₂} {pool₂ = pool₂} m rows₁ cols₁ pool₁ y n k x r c p =

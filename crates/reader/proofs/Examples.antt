@@ -21,7 +21,11 @@ use Rattle.jobtext.specs.Laid.{
 }
 use Rattle.celllines.specs.Columns.{columns}
 use Rattle.reader.specs.declared.ReadJob.{ReadJob}
-use Rattle.reader.specs.Held.{refused_as, Held, held, cleared, fits_in, read_job, held_after}
+use Rattle.reader.specs.declared.Unread.{Unread}
+use Rattle.std.specs.Result.{IfOk, is_err}
+use Rattle.std.specs.Prelude.{Result, Err}
+use mathlib.Core.Bool.{false}
+use Rattle.reader.specs.Held.{Held, held, cleared, fits_in, read_job, held_after}
 
 -- the sheet N with the number 9 in row 3 and the text A in row 4, of which the first is looked at
 abbrev job : JobText
@@ -62,18 +66,18 @@ unfolding held_after fits_in laid columns_from cell_bytes value_bytes rule_bytes
 longer = refl
 
 -- the numbers of the answer are the same
-abbrev Told : ReadJob → Type 0
-Told j = (j.number ≡ 0) × (j.start ≡ 5) × (j.limit ≡ 100) × (j.cells ≡ 2) × (j.regions ≡ 1) × (j.used ≡ 2)
+abbrev Told : Result ReadJob Unread → Type 0
+Told r = IfOk r (λ j. (j.start ≡ 5) × (j.limit ≡ 100) × (j.cells ≡ 2) × (j.regions ≡ 1) × (j.used ≡ 2)) × (is_err r ≡ false)
 
 told : Told (read_job (memory 2 2 2 2 2 2 2 1 1 2) result) × Told (read_job (memory 3 3 3 3 3 3 3 2 2 3) result)
 unfolding read_job fits_in laid columns_from cell_bytes value_bytes rule_bytes ats_from
-told = ((refl, refl, refl, refl, refl, refl), (refl, refl, refl, refl, refl, refl))
+told = (((refl, refl, refl, refl, refl), refl), ((refl, refl, refl, refl, refl), refl))
 
 -- ---- one short
 
--- 6 with the start of the job, and zeros
+-- refused with the start of the job, and zeros
 abbrev Short : Held → Type 0
-Short h = (read_job h result ≡ refused_as 6 0 5) × (held_after result h ≡ cleared h)
+Short h = (read_job h result ≡ Err (Unread.SpaceShort 5)) × (held_after result h ≡ cleared h)
 
 cells_short : Short (memory 1 2 2 2 2 2 2 1 1 2)
     × Short (memory 2 1 2 2 2 2 2 1 1 2)
@@ -102,7 +106,7 @@ zeros = refl
 
 -- ---- a refused text
 
-malformed : (read_job (memory 2 2 2 2 2 2 2 1 1 1) (ReadResult.bad_line 4) ≡ refused_as 11 4 0)
+malformed : (read_job (memory 2 2 2 2 2 2 2 1 1 1) (ReadResult.bad_line 4) ≡ Err (Unread.Malformed 4))
     × (held_after (ReadResult.bad_line 4) (memory 1 1 1 1 1 1 1 1 0 2)
     ≡ held (columns (0 ∷ []) (0 ∷ []) (0 ∷ []) (0 ∷ []) (0 ∷ []) (0 ∷ []) (0 ∷ [])) (0 ∷ []) [] (0 ∷ 0 ∷ []))
 unfolding read_job held_after

@@ -2,7 +2,8 @@
 use Prim.Native.Nat.{ℕ, ◌+◌, ◌≤◌}
 use mathlib.Core.Path.{◌≡◌, refl, sym, ap, ◌∙◌}
 use mathlib.Core.Bool.{Bool, true, false, ◌&&◌}
-use mathlib.Core.List.{List, ◌++◌}
+use mathlib.Core.List.{List, [], ◌∷◌, ◌++◌}
+use Rattle.model.specs.Sheet.{CellColumns}
 use native.Mathlib.Omega.{arith}
 use lib.Dec.{leb}
 use lib.ListN.{length, length-append, length-map}
@@ -10,7 +11,7 @@ use borrow.Author.Tests.{leb-true}
 use Rattle.memory.specs.Memory.{all_or_zeros, page_of}
 use Rattle.memory.proofs.Laws.{all_append}
 use Rattle.grammar.proofs.Parts.{times_length}
-use Rattle.fields.proofs.Laws.{clash}
+use Rattle.std.specs.List.{list_all}
 use Rattle.jobtext.specs.Text.{Head, tail, body_t, body_of, cell_line, region_line, body, to_job}
 use Rattle.jobtext.specs.Laid.{cell_bytes, rule_bytes, columns_from, laid}
 use Rattle.jobtext.proofs.Lengths.{ats_length}
@@ -33,11 +34,11 @@ pub record Fitted (cells regions rows cols kinds wraps nums ats lens region_rows
 
 pub and_first : (a b : Bool) → a && b ≡ true → a ≡ true
 and_first true b e = refl
-and_first false b e = clash true false refl refl (sym e)
+and_first false b e = cc
 
 pub and_second : (a b : Bool) → a && b ≡ true → b ≡ true
 and_second true b e = e
-and_second false b e = clash true false refl refl (sym e)
+and_second false b e = cc
 
 pub fitted : (cells regions rows cols kinds wraps nums ats lens region_rows region_cols : ℕ)
     → columns_fit cells regions rows cols kinds wraps nums ats lens region_rows region_cols ≡ true
@@ -68,6 +69,22 @@ fitted cells regions rows cols kinds wraps nums ats lens region_rows region_cols
       region = leb-true regions region_rows (and_second a7 (leb regions region_rows) e8);
       region_col = leb-true regions region_cols (and_second a8 (leb regions region_cols) e);
     }
+
+assoc : (a b c : Bool) → (a && (b && c)) ≡ ((a && b) && c)
+assoc true b c = refl
+assoc false b c = refl
+
+alone_so : (a : Bool) → (a && true) ≡ a
+alone_so true = refl
+alone_so false = refl
+
+-- what `columns_fit` says of seven columns and of two
+pub within_columns : (cells regions : ℕ) (d : CellColumns) (rows cols : List ℕ)
+    → (list_all (λ size. leb cells size)
+    (length d.rows ∷ length d.cols ∷ length d.kinds ∷ length d.wraps ∷ length d.nums ∷ length d.ats ∷ length d.lens ∷ [])
+    && list_all (λ size. leb regions size) (length rows ∷ length cols ∷ []))
+    ≡ columns_in cells regions d rows cols
+within_columns cells regions d rows cols = simp (assoc, alone_so)
 
 -- ---- the lengths of a job as it is laid
 

@@ -1,22 +1,23 @@
 -- All sections behind the first two lines, part by part, and the answers of their reader. Assumes nothing.
 use Prim.Native.Nat.{ℕ, ◌+◌, ◌≤◌}
-use mathlib.Core.Path.{◌≡◌, refl, sym, ap, ◌∙◌, subst}
-use mathlib.Core.Bool.{true, false, not}
+use mathlib.Core.Path.{◌≡◌, refl, ap, ◌∙◌, subst}
+use mathlib.Core.Bool.{true}
+use Rattle.std.specs.Prelude.{Result, Ok, Err}
 use mathlib.Core.List.{List, [], ◌∷◌}
 use native.Mathlib.Omega.{arith}
 use lib.Dec.{leb}
 use lib.ListN.{length}
-use borrow.Author.Tests.{leb-true, le-leb, not-true, not-false}
+use borrow.Author.Tests.{leb-true, le-leb}
 use Rattle.memory.proofs.Laws.{length_all}
 use Rattle.model.specs.Sheet.{CellColumns}
 use Rattle.grammar.specs.Gram.{Got}
 use Rattle.grammar.specs.Gram.Got.{got, bad}
 use Rattle.grammar.specs.Parts.{bytes, word_p, times_p}
 use Rattle.grammar.proofs.Parts.{word_exact, times_exact}
-use Rattle.fields.specs.declared.Field.{Field}
+use Rattle.fields.specs.declared.Malformed.{Malformed}
 use Rattle.fields.specs.Field.{word_of}
 use Rattle.fields.specs.Room.{Room}
-use Rattle.fields.proofs.Laws.{clash, word_read, word_none}
+use Rattle.fields.proofs.Laws.{word_got, word_bad}
 use Rattle.fields.proofs.Room.{room_on, room_past, room_roomy}
 use Rattle.jobtext.specs.Written.{CellLine}
 use Rattle.jobtext.specs.Text.{cell_line, tail_t, tail, body_of}
@@ -27,7 +28,6 @@ use Rattle.celllines.specs.declared.Section.{Section}
 use Rattle.celllines.specs.Columns.{cells_at, section_of, columns_after}
 use Rattle.celllines.specs.Columns.{all_fit, pool_after as cellsPool}
 use Rattle.rulelines.specs.declared.RuleSection.{RuleSection}
-use Rattle.rulelines.specs.RuleSections.{no_section}
 use Rattle.reader.specs.Held.{Held, held}
 use Rattle.reader.specs.Results.{IsTail, columns_in, IsBody}
 use Rattle.reader.proofs.Fits.{and_first, and_second, fitted}
@@ -42,30 +42,31 @@ cells_here : (s : List ℕ) (at n used : ℕ) → Room s at used → cells_at s 
 unfolding cells_at
 cells_here s at n used r = rw (room_roomy r)
 
-cells_bad : {b : Section} (used : ℕ) (g : Got (List CellLine)) (d : CellColumns) (pool : List ℕ) → b ≡ section_of used g d pool
-    → b.ok ≡ false → g ≡ bad b.next
-cells_bad used (got cs q) d pool e x = clash true false refl refl (sym (ap (λ (k : Section). k.ok) e) ∙ x)
-cells_bad used (bad p) d pool e x = rw e
+cells_bad : (used : ℕ) (g : Got (List CellLine)) (d : CellColumns) (pool : List ℕ) {e : Malformed} → Err e ≡ section_of used g d pool
+    → g ≡ bad e.at
+cells_bad used (got cs q) d pool x = cc
+cells_bad used (bad p) d pool {e} x = let z : e ≡ record { at = p } = cc in rw z
 
--- the names and the cells were read
-module _ (s : List ℕ) (at cells used : ℕ) (d : CellColumns) (pool : List ℕ) {a : Field} (ea : a ≡ word_of (word_p cell_names s at))
-    (room : Room s at used) (xa : not a.ok ≡ false) where
-  cells_room : Room s a.next used
-  cells_room = room_on (word_exact cell_names) tt a.next room (word_read (word_p cell_names s at) ea xa)
+-- the names were read
+module _ (s : List ℕ) (at cells used : ℕ) (d : CellColumns) (pool : List ℕ) {a : ℕ} (ea : Ok a ≡ word_of (word_p cell_names s at))
+    (room : Room s at used) where
+  cells_room : Room s a used
+  cells_room = room_on (word_exact cell_names) tt a room (word_got (word_p cell_names s at) ea)
 
-  module _ {b : Section} (eb : b ≡ section_of used (cells_at s a.next cells used) d pool) where
-    lines : b ≡ section_of used (times_p cells cell_line.parse s a.next) d pool
-    lines = eb ∙ ap (λ (g : Got (List CellLine)). section_of used g d pool) (cells_here s a.next cells used cells_room)
+  lines : {r : Result Section Malformed} → r ≡ section_of used (cells_at s a cells used) d pool
+      → r ≡ section_of used (times_p cells cell_line.parse s a) d pool
+  lines e = e ∙ ap (λ (g : Got (List CellLine)). section_of used g d pool) (cells_here s a cells used cells_room)
 
-    pub tail_room : not b.ok ≡ false → Room s b.next b.used
-    tail_room xb = go (times_p cells cell_line.parse s a.next) refl lines
-      where
-        go : (g : Got (List CellLine)) → times_p cells cell_line.parse s a.next ≡ g → b ≡ section_of used g d pool
-            → Room s b.next b.used
-        go (got cs q) f e =
-            let half = cells_half cs in
-            rw e (room_past (times_exact cell_exact cells) cs q (length (cell_bytes cs)) cells_room f (omega arith))
-        go (bad p) f e = clash true false refl refl (sym (not-false b.ok xb) ∙ ap (λ (k : Section). k.ok) e)
+  -- and the cells
+  pub tail_room : {b : Section} → Ok b ≡ section_of used (cells_at s a cells used) d pool → Room s b.next b.used
+  tail_room {b} eb = go (times_p cells cell_line.parse s a) refl (lines eb)
+    where
+      go : (g : Got (List CellLine)) → times_p cells cell_line.parse s a ≡ g → Ok b ≡ section_of used g d pool → Room s b.next b.used
+      go (got cs q) f e =
+          let half = cells_half cs in
+          let k : b ≡ record { fits = all_fit used cs d pool; next = q; used = used + length (cell_bytes cs) } = cc in
+          rw k (room_past (times_exact cell_exact cells) cs q (length (cell_bytes cs)) cells_room f (omega arith))
+      go (bad p) f e = absurd (cc)
 
 -- cells that are within the columns and the pool
 cells_fit : (used regions : ℕ) (cs : List CellLine) (d : CellColumns) (pool rows cols : List ℕ)
@@ -86,14 +87,15 @@ cells_fit used regions cs d pool rows cols e h =
     )
 
 module _ (s : List ℕ) (at cells regions rules used : ℕ) (h : Held) where
-  abbrev Says : RuleSection → Held → Type 0
+  abbrev Says : Result RuleSection Malformed → Held → Type 0
   Says r e = IsBody ((body_of cells regions rules).parse s at) used h r e
 
-  refused : (p : ℕ) {r : RuleSection} (e : Held) → (body_of cells regions rules).parse s at ≡ bad p → r ≡ no_section p → Says r e
-  refused p e f x = rw f (ap (λ (k : RuleSection). k.ok) x, ap (λ (k : RuleSection). k.next) x)
+  refused : {m : Malformed} (r : Result RuleSection Malformed) (e : Held) → (body_of cells regions rules).parse s at ≡ bad m.at
+      → r ≡ Err m → Says r e
+  refused r e f x = rw f x
 
   -- what all sections leave, from what the cells and the tail leave
-  body_laid : (cs : List CellLine) (q : ℕ) (t : tail_t) (p : ℕ) (r : RuleSection) {d : CellColumns} {after : List ℕ}
+  body_laid : (cs : List CellLine) (q : ℕ) (t : tail_t) (p : ℕ) (r : Result RuleSection Malformed) {d : CellColumns} {after : List ℕ}
       (rows' cols' pool' : List ℕ) → d ≡ columns_after used (got cs q) h.cells h.pool
       → after ≡ cellsPool used (got cs q) h.cells h.pool
       → IsTail (got t p) (used + length (cell_bytes cs)) h.region_rows h.region_cols after r rows' cols' pool'
@@ -115,48 +117,48 @@ module _ (s : List ℕ) (at cells regions rules used : ℕ) (h : Held) where
             rw (x, w.0, w.1, i.2, y, k),
       )
 
-  module _ {a : Field} (ea : a ≡ word_of (word_p cell_names s at)) where
-    pub no_cell_names : {r : RuleSection} (e : Held) → not a.ok ≡ true → r ≡ no_section a.next → Says r e
+  pub no_cell_names : {m : Malformed} (r : Result RuleSection Malformed) (e : Held) → Err m ≡ word_of (word_p cell_names s at)
+      → r ≡ Err m → Says r e
+  unfolding body_of bytes
+  no_cell_names r e x y = refused r e (rw (word_bad (word_p cell_names s at) x)) y
+
+  module _ {a : ℕ} (ea : Ok a ≡ word_of (word_p cell_names s at)) (room : Room s at used) where
+    pub no_cells : {m : Malformed} (r : Result RuleSection Malformed) (e : Held)
+        → Err m ≡ section_of used (cells_at s a cells used) h.cells h.pool → r ≡ Err m → Says r e
     unfolding body_of bytes
-    no_cell_names e x y = refused a.next e (rw (word_none (word_p cell_names s at) ea x)) y
+    no_cells r e x y = refused r e (rw (
+      word_got (word_p cell_names s at) ea,
+      cells_bad used (times_p cells cell_line.parse s a) h.cells h.pool (lines s at cells used h.cells h.pool ea room x),
+    )) y
 
-    module _ (room : Room s at used) (xa : not a.ok ≡ false) {b : Section}
-        (eb : b ≡ section_of used (cells_at s a.next cells used) h.cells h.pool) where
-      pub no_cells : {r : RuleSection} (e : Held) → not b.ok ≡ true → r ≡ no_section b.next → Says r e
-      unfolding body_of bytes
-      no_cells e x y = refused b.next e (rw (
-        word_read (word_p cell_names s at) ea xa,
-        cells_bad used (times_p cells cell_line.parse s a.next) h.cells h.pool
-            (lines s at cells used h.cells h.pool ea room xa eb) (not-true b.ok x),
-      )) y
-
-      module _ (xb : not b.ok ≡ false) where
-        pub body_answer : (r : RuleSection) {d : CellColumns} {after : List ℕ} (rows' cols' pool' : List ℕ)
-            → d ≡ columns_after used (cells_at s a.next cells used) h.cells h.pool
-            → after ≡ cellsPool used (cells_at s a.next cells used) h.cells h.pool
-            → IsTail ((tail regions rules).parse s b.next) b.used h.region_rows h.region_cols after r rows' cols' pool'
+    pub body_answer : {b : Section} (r : Result RuleSection Malformed) {d : CellColumns} {after : List ℕ} (rows' cols' pool' : List ℕ)
+        → Ok b ≡ section_of used (cells_at s a cells used) h.cells h.pool
+        → d ≡ columns_after used (cells_at s a cells used) h.cells h.pool
+        → after ≡ cellsPool used (cells_at s a cells used) h.cells h.pool
+        → IsTail ((tail regions rules).parse s b.next) b.used h.region_rows h.region_cols after r rows' cols' pool'
+        → Says r (held d rows' cols' pool')
+    unfolding body_of bytes
+    body_answer {b} r {d} {after} rows' cols' pool' eb ed ep i =
+        let z = cells_here s a cells used (cells_room s at cells used h.cells h.pool ea room) in
+        go (times_p cells cell_line.parse s a) refl (lines s at cells used h.cells h.pool ea room eb)
+        (ed ∙ ap (λ (g : Got (List CellLine)). columns_after used g h.cells h.pool) z)
+        (ep ∙ ap (λ (g : Got (List CellLine)). cellsPool used g h.cells h.pool) z)
+      where
+        last : (cs : List CellLine) (q : ℕ) → times_p cells cell_line.parse s a ≡ got cs q
+            → d ≡ columns_after used (got cs q) h.cells h.pool → after ≡ cellsPool used (got cs q) h.cells h.pool
+            → (g : Got tail_t) → (tail regions rules).parse s q ≡ g
+            → IsTail g (used + length (cell_bytes cs)) h.region_rows h.region_cols after r rows' cols' pool'
             → Says r (held d rows' cols' pool')
-        unfolding body_of bytes
-        body_answer r {d} {after} rows' cols' pool' ed ep i =
-            let z = cells_here s a.next cells used (cells_room s at cells used h.cells h.pool ea room xa) in
-            go (times_p cells cell_line.parse s a.next) refl (lines s at cells used h.cells h.pool ea room xa eb)
-            (ed ∙ ap (λ (g : Got (List CellLine)). columns_after used g h.cells h.pool) z)
-            (ep ∙ ap (λ (g : Got (List CellLine)). cellsPool used g h.cells h.pool) z)
-          where
-            last : (cs : List CellLine) (q : ℕ) → times_p cells cell_line.parse s a.next ≡ got cs q
-                → d ≡ columns_after used (got cs q) h.cells h.pool → after ≡ cellsPool used (got cs q) h.cells h.pool
-                → (g : Got tail_t) → (tail regions rules).parse s q ≡ g
-                → IsTail g (used + length (cell_bytes cs)) h.region_rows h.region_cols after r rows' cols' pool'
-                → Says r (held d rows' cols' pool')
-            last cs q f x y (got t e) n i =
-                rw (word_read (word_p cell_names s at) ea xa, f, n) (body_laid cs q t e r rows' cols' pool' x y i)
-            last cs q f x y (bad p) n i = rw (word_read (word_p cell_names s at) ea xa, f, n) i
+        last cs q f x y (got t e) n i =
+            rw (word_got (word_p cell_names s at) ea, f, n) (body_laid cs q t e r rows' cols' pool' x y i)
+        last cs q f x y (bad p) n i = rw (word_got (word_p cell_names s at) ea, f, n) i
 
-            go : (g : Got (List CellLine)) → times_p cells cell_line.parse s a.next ≡ g → b ≡ section_of used g h.cells h.pool
-                → d ≡ columns_after used g h.cells h.pool → after ≡ cellsPool used g h.cells h.pool
-                → Says r (held d rows' cols' pool')
-            go (got cs q) f e x y =
-                last cs q f x y ((tail regions rules).parse s q) refl
-                (subst (λ (k : Section). IsTail ((tail regions rules).parse s k.next) k.used h.region_rows h.region_cols after r
-                rows' cols' pool') e i)
-            go (bad p) f e x y = clash true false refl refl (sym (not-false b.ok xb) ∙ ap (λ (k : Section). k.ok) e)
+        go : (g : Got (List CellLine)) → times_p cells cell_line.parse s a ≡ g → Ok b ≡ section_of used g h.cells h.pool
+            → d ≡ columns_after used g h.cells h.pool → after ≡ cellsPool used g h.cells h.pool
+            → Says r (held d rows' cols' pool')
+        go (got cs q) f e x y =
+            let k : b ≡ record { fits = all_fit used cs h.cells h.pool; next = q; used = used + length (cell_bytes cs) } = cc in
+            last cs q f x y ((tail regions rules).parse s q) refl
+            (subst (λ (k : Section). IsTail ((tail regions rules).parse s k.next) k.used h.region_rows h.region_cols after r
+            rows' cols' pool') k i)
+        go (bad p) f e x y = absurd (cc)

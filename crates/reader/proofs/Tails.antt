@@ -1,29 +1,29 @@
 -- The sections of regions and rules, part by part, and the answers of their reader. Assumes nothing.
 use Prim.Native.Nat.{ℕ, ◌≤◌}
 use mathlib.Core.Path.{◌≡◌, refl, sym, ap, ◌∙◌}
-use mathlib.Core.Bool.{true, false, not}
+use Rattle.std.specs.Prelude.{Result, Ok, Err}
 use mathlib.Core.List.{List, [], ◌∷◌}
 use lib.ListN.{length}
-use borrow.Author.Tests.{le-leb, not-true, not-false}
+use borrow.Author.Tests.{le-leb}
 use Rattle.model.specs.declared.CellCoordinate.{CellCoordinate}
 use Rattle.grammar.specs.Gram.{Got}
 use Rattle.grammar.specs.Gram.Got.{got, bad}
 use Rattle.grammar.specs.Parts.{bytes, word_p, times_p}
 use Rattle.grammar.proofs.Parts.{word_exact, times_exact}
-use Rattle.fields.specs.declared.Field.{Field}
+use Rattle.fields.specs.declared.Malformed.{Malformed}
 use Rattle.fields.specs.Field.{word_of}
 use Rattle.fields.specs.Room.{Room}
-use Rattle.fields.proofs.Laws.{clash, word_read, word_none}
+use Rattle.fields.proofs.Laws.{word_got, word_bad}
 use Rattle.fields.proofs.Room.{room_on, room_roomy}
 use Rattle.jobtext.specs.Written.{RuleLine}
 use Rattle.jobtext.specs.Rules.{rule_line}
 use Rattle.jobtext.specs.Text.{region_line, tail_t, tail}
 use Rattle.jobtext.proofs.Text.{region_exact}
 use Rattle.regionlines.specs.declared.RegionSection.{RegionSection}
-use Rattle.regionlines.specs.Regions.{rows_after, cols_after}
+use Rattle.regionlines.specs.Regions.{held as within_held, rows_after, cols_after}
 use Rattle.regionlines.specs.Regions.{section_of as regionsOf}
 use Rattle.rulelines.specs.declared.RuleSection.{RuleSection}
-use Rattle.rulelines.specs.RuleSections.{no_section, rules_at, pool_after}
+use Rattle.rulelines.specs.RuleSections.{rules_at, pool_after}
 use Rattle.rulelines.specs.RuleSections.{section_of as rules_of}
 use Rattle.reader.specs.Results.{IsTail}
 
@@ -39,10 +39,9 @@ rule_names =
 
 -- ---- what the answer of `read_regions` says
 
-regions_bad : {b : RegionSection} (g : Got (List CellCoordinate)) (rows cols : List ℕ) → b ≡ regionsOf g rows cols → b.ok ≡ false
-    → g ≡ bad b.next
-regions_bad (got rs q) rows cols e x = clash true false refl refl (sym (ap (λ (k : RegionSection). k.ok) e) ∙ x)
-regions_bad (bad p) rows cols e x = rw e
+regions_bad : (g : Got (List CellCoordinate)) (rows cols : List ℕ) {e : Malformed} → Err e ≡ regionsOf g rows cols → g ≡ bad e.at
+regions_bad (got rs q) rows cols x = cc
+regions_bad (bad p) rows cols {e} x = let z : e ≡ record { at = p } = cc in rw z
 
 -- ---- the rules, where there is room
 
@@ -51,87 +50,87 @@ unfolding rules_at
 rules_here s at n used r h = rw (room_roomy r, le-leb n 64 h)
 
 module _ (s : List ℕ) (at regions rules used : ℕ) (rows cols pool : List ℕ) where
-  abbrev Says : Got tail_t → RuleSection → List ℕ → List ℕ → List ℕ → Type 0
+  abbrev Says : Got tail_t → Result RuleSection Malformed → List ℕ → List ℕ → List ℕ → Type 0
   Says g r rows' cols' pool' = IsTail g used rows cols pool r rows' cols' pool'
 
-  refused : (p : ℕ) {r : RuleSection} (rows' cols' pool' : List ℕ) → (tail regions rules).parse s at ≡ bad p → r ≡ no_section p
-      → Says ((tail regions rules).parse s at) r rows' cols' pool'
-  refused p rows' cols' pool' e x = rw e (ap (λ (k : RuleSection). k.ok) x, ap (λ (k : RuleSection). k.next) x)
+  refused : {e : Malformed} (r : Result RuleSection Malformed) (rows' cols' pool' : List ℕ) → (tail regions rules).parse s at ≡ bad e.at
+      → r ≡ Err e → Says ((tail regions rules).parse s at) r rows' cols' pool'
+  refused r rows' cols' pool' e x = rw e x
 
-  module _ {a : Field} (ea : a ≡ word_of (word_p region_names s at)) where
-    pub no_region_names : {r : RuleSection} (rows' cols' pool' : List ℕ) → not a.ok ≡ true → r ≡ no_section a.next
+  pub no_region_names : {e : Malformed} (r : Result RuleSection Malformed) (rows' cols' pool' : List ℕ)
+      → Err e ≡ word_of (word_p region_names s at) → r ≡ Err e → Says ((tail regions rules).parse s at) r rows' cols' pool'
+  unfolding tail bytes
+  no_region_names r rows' cols' pool' x y = refused r rows' cols' pool' (rw (word_bad (word_p region_names s at) x)) y
+
+  module _ {a : ℕ} (ea : Ok a ≡ word_of (word_p region_names s at)) where
+    pub no_regions : {e : Malformed} (r : Result RuleSection Malformed) (rows' cols' pool' : List ℕ)
+        → Err e ≡ regionsOf (times_p regions region_line.parse s a) rows cols → r ≡ Err e
         → Says ((tail regions rules).parse s at) r rows' cols' pool'
     unfolding tail bytes
-    no_region_names rows' cols' pool' x y = refused a.next rows' cols' pool' (rw (word_none (word_p region_names s at) ea x)) y
+    no_regions r rows' cols' pool' x y = refused r rows' cols' pool' (rw (
+      word_got (word_p region_names s at) ea,
+      regions_bad (times_p regions region_line.parse s a) rows cols x,
+    )) y
 
-    module _ (xa : not a.ok ≡ false) {b : RegionSection}
-        (eb : b ≡ regionsOf (times_p regions region_line.parse s a.next) rows cols) where
-      pub no_regions : {r : RuleSection} (rows' cols' pool' : List ℕ) → not b.ok ≡ true → r ≡ no_section b.next
-          → Says ((tail regions rules).parse s at) r rows' cols' pool'
+    module _ {b : RegionSection} (eb : Ok b ≡ regionsOf (times_p regions region_line.parse s a) rows cols) where
+      pub no_rule_names : {e : Malformed} (r : Result RuleSection Malformed) (rows' cols' pool' : List ℕ)
+          → Err e ≡ word_of (word_p rule_names s b.next) → r ≡ Err e → Says ((tail regions rules).parse s at) r rows' cols' pool'
       unfolding tail bytes
-      no_regions rows' cols' pool' x y = refused b.next rows' cols' pool' (rw (
-        word_read (word_p region_names s at) ea xa,
-        regions_bad (times_p regions region_line.parse s a.next) rows cols eb (not-true b.ok x),
-      )) y
+      no_rule_names {e} r rows' cols' pool' x y = go (times_p regions region_line.parse s a) refl eb
+        where
+          go : (g : Got (List CellCoordinate)) → times_p regions region_line.parse s a ≡ g → Ok b ≡ regionsOf g rows cols
+              → Says ((tail regions rules).parse s at) r rows' cols' pool'
+          go (got rs q) f j =
+              let k : b ≡ record { fits = within_held (length rs) rows cols; next = q } = cc in
+              let n : word_p rule_names s q ≡ bad e.at =
+              ap (λ (k : RegionSection). word_p rule_names s k.next) (sym k) ∙ word_bad (word_p rule_names s b.next) x in
+              refused r rows' cols' pool' (rw (word_got (word_p region_names s at) ea, f, n)) y
+          go (bad p) f j = absurd (cc)
 
-      module _ (xb : not b.ok ≡ false) {w : Field} (ew : w ≡ word_of (word_p rule_names s b.next)) where
-        pub no_rule_names : {r : RuleSection} (rows' cols' pool' : List ℕ) → not w.ok ≡ true → r ≡ no_section w.next
+      module _ {w : ℕ} (ew : Ok w ≡ word_of (word_p rule_names s b.next)) (room : Room s at used) (small : rules ≤ 64) where
+        pub tail_answer : {r : Result RuleSection Malformed} {rows' cols' pool' : List ℕ}
+            → rows' ≡ rows_after (times_p regions region_line.parse s a) rows cols
+            → cols' ≡ cols_after (times_p regions region_line.parse s a) rows cols
+            → r ≡ rules_of used (length pool) (rules_at s w rules used)
+            → pool' ≡ pool_after used (rules_at s w rules used) pool
             → Says ((tail regions rules).parse s at) r rows' cols' pool'
         unfolding tail bytes
-        no_rule_names {r} rows' cols' pool' x y = go (times_p regions region_line.parse s a.next) refl eb
+        tail_answer {r} {rows'} {cols'} {pool'} er ec es ep = go (times_p regions region_line.parse s a) refl eb er ec
           where
-            go : (g : Got (List CellCoordinate)) → times_p regions region_line.parse s a.next ≡ g → b ≡ regionsOf g rows cols
+            last : (rs : List CellCoordinate) (q : ℕ) → times_p regions region_line.parse s a ≡ got rs q → b.next ≡ q
+                → rows' ≡ rows_after (got rs q) rows cols → cols' ≡ cols_after (got rs q) rows cols
+                → (g : Got (List RuleLine)) → times_p rules rule_line.parse s w ≡ g → r ≡ rules_of used (length pool) g
+                → pool' ≡ pool_after used g pool
                 → Says ((tail regions rules).parse s at) r rows' cols' pool'
-            go (got rs q) f e =
-                let n : word_p rule_names s q ≡ bad w.next =
-                ap (λ (k : RegionSection). word_p rule_names s k.next) (sym e) ∙ word_none (word_p rule_names s b.next) ew x in
-                refused w.next rows' cols' pool' (rw (word_read (word_p region_names s at) ea xa, f, n)) y
-            go (bad p) f e = clash true false refl refl (sym (not-false b.ok xb) ∙ ap (λ (k : RegionSection). k.ok) e)
+            last rs q f k i j (got ls e) n x y =
+                let m : word_p rule_names s q ≡ got tt w =
+                ap (λ (p : ℕ). word_p rule_names s p) (sym k) ∙ word_got (word_p rule_names s b.next) ew in
+                rw (word_got (word_p region_names s at) ea, f, m, n) (
+                  x,
+                  λ o p.
+                      let u = le-leb (length rs) (length rows) o in
+                      let v = le-leb (length rs) (length cols) p in
+                      (rw (u, v) at i, rw (u, v) at j),
+                  y,
+                )
+            last rs q f k i j (bad e) n x y =
+                let m : word_p rule_names s q ≡ got tt w =
+                ap (λ (p : ℕ). word_p rule_names s p) (sym k) ∙ word_got (word_p rule_names s b.next) ew in
+                rw (word_got (word_p region_names s at) ea, f, m, n) x
 
-        module _ (xw : not w.ok ≡ false) (room : Room s at used) (small : rules ≤ 64) where
-          pub tail_answer : {r : RuleSection} {rows' cols' pool' : List ℕ}
-              → rows' ≡ rows_after (times_p regions region_line.parse s a.next) rows cols
-              → cols' ≡ cols_after (times_p regions region_line.parse s a.next) rows cols
-              → r ≡ rules_of used (length pool) (rules_at s w.next rules used)
-              → pool' ≡ pool_after used (rules_at s w.next rules used) pool
-              → Says ((tail regions rules).parse s at) r rows' cols' pool'
-          unfolding tail bytes
-          tail_answer {r} {rows'} {cols'} {pool'} er ec es ep = go (times_p regions region_line.parse s a.next) refl eb er ec
-            where
-              last : (rs : List CellCoordinate) (q : ℕ) → times_p regions region_line.parse s a.next ≡ got rs q → b.next ≡ q
-                  → rows' ≡ rows_after (got rs q) rows cols → cols' ≡ cols_after (got rs q) rows cols
-                  → (g : Got (List RuleLine)) → times_p rules rule_line.parse s w.next ≡ g → r ≡ rules_of used (length pool) g
-                  → pool' ≡ pool_after used g pool
-                  → Says ((tail regions rules).parse s at) r rows' cols' pool'
-              last rs q f k i j (got ls e) n x y =
-                  let m : word_p rule_names s q ≡ got tt w.next =
-                  ap (λ (p : ℕ). word_p rule_names s p) (sym k) ∙ word_read (word_p rule_names s b.next) ew xw in
-                  rw (word_read (word_p region_names s at) ea xa, f, m, n) (
-                    x,
-                    λ o p.
-                        let u = le-leb (length rs) (length rows) o in
-                        let v = le-leb (length rs) (length cols) p in
-                        (rw (u, v) at i, rw (u, v) at j),
-                    y,
-                  )
-              last rs q f k i j (bad e) n x y =
-                  let m : word_p rule_names s q ≡ got tt w.next =
-                  ap (λ (p : ℕ). word_p rule_names s p) (sym k) ∙ word_read (word_p rule_names s b.next) ew xw in
-                  rw (word_read (word_p region_names s at) ea xa, f, m, n)
-                  (ap (λ (k : RuleSection). k.ok) x, ap (λ (k : RuleSection). k.next) x)
-
-              go : (g : Got (List CellCoordinate)) → times_p regions region_line.parse s a.next ≡ g → b ≡ regionsOf g rows cols
-                  → rows' ≡ rows_after g rows cols → cols' ≡ cols_after g rows cols
-                  → Says ((tail regions rules).parse s at) r rows' cols' pool'
-              go (got rs q) f e i j =
-                  let k : b.next ≡ q = ap (λ (x : RegionSection). x.next) e in
-                  let f' : times_p regions region_line.parse s a.next ≡ got rs b.next = f ∙ ap (λ (p : ℕ). got rs p) (sym k) in
-                  let here : Room s w.next used =
-                  room_on (word_exact rule_names) tt w.next
-                  (room_on (times_exact region_exact regions) rs b.next
-                  (room_on (word_exact region_names) tt a.next room (word_read (word_p region_names s at) ea xa)) f')
-                  (word_read (word_p rule_names s b.next) ew xw) in
-                  let z = rules_here s w.next rules used here small in
-                  last rs q f k i j (times_p rules rule_line.parse s w.next) refl (es ∙ ap (rules_of used (length pool)) z)
-                  (ep ∙ ap (λ (g : Got (List RuleLine)). pool_after used g pool) z)
-              go (bad p) f e i j = clash true false refl refl (sym (not-false b.ok xb) ∙ ap (λ (k : RegionSection). k.ok) e)
+            go : (g : Got (List CellCoordinate)) → times_p regions region_line.parse s a ≡ g → Ok b ≡ regionsOf g rows cols
+                → rows' ≡ rows_after g rows cols → cols' ≡ cols_after g rows cols
+                → Says ((tail regions rules).parse s at) r rows' cols' pool'
+            go (got rs q) f e i j =
+                let h : b ≡ record { fits = within_held (length rs) rows cols; next = q } = cc in
+                let k : b.next ≡ q = ap (λ (x : RegionSection). x.next) h in
+                let f' : times_p regions region_line.parse s a ≡ got rs b.next = f ∙ ap (λ (p : ℕ). got rs p) (sym k) in
+                let here : Room s w used =
+                room_on (word_exact rule_names) tt w
+                (room_on (times_exact region_exact regions) rs b.next
+                (room_on (word_exact region_names) tt a room (word_got (word_p region_names s at) ea)) f')
+                (word_got (word_p rule_names s b.next) ew) in
+                let z = rules_here s w rules used here small in
+                last rs q f k i j (times_p rules rule_line.parse s w) refl (es ∙ ap (rules_of used (length pool)) z)
+                (ep ∙ ap (λ (g : Got (List RuleLine)). pool_after used g pool) z)
+            go (bad p) f e i j = absurd (cc)

@@ -2,92 +2,75 @@
 -- as it is laid. Assumes nothing.
 use Prim.Native.Nat.{ℕ, ◌+◌}
 use mathlib.Core.Path.{◌≡◌, refl, sym, ap, ◌∙◌, subst}
-use mathlib.Core.Bool.{Bool, true, false, cond, not, ◌&&◌}
+use mathlib.Core.Bool.{Bool, true, false, cond, ◌&&◌}
+use Rattle.std.specs.Prelude.{Result, Ok, Err}
 use mathlib.Core.List.{List}
 use lib.Dec.{leb, ltb, eqb}
 use lib.ListN.{length, length-map}
-use borrow.Author.Tests.{not-true, not-false, eq-eqb, ne_eqb}
-use Rattle.memory.specs.Memory.{page_of}
+use Rattle.memory.specs.Memory.{fits, page_of}
 use Rattle.memory.proofs.Laws.{length_page}
 use Rattle.model.specs.declared.CellCoordinate.{CellCoordinate}
 use Rattle.model.specs.Sheet.{CellColumns}
 use Rattle.grammar.specs.Gram.{Got, line_of}
 use Rattle.grammar.specs.Gram.Got.{got, bad}
-use Rattle.jobtext.specs.Written.{CellLine}
+use Rattle.jobtext.specs.Written.{CellLine, RuleLine}
 use Rattle.jobtext.specs.Text.{Head, body_t, head, body_of, body, to_job}
 use Rattle.jobtext.specs.Read.{ReadResult, max_text, over, closed, headed, read}
-use Rattle.jobtext.specs.Laid.{cell_bytes, rule_bytes, columns_from, laid}
+use Rattle.jobtext.specs.Laid.{cell_bytes, rule_bytes, columns_from, records_from, laid}
 use Rattle.jobtext.proofs.Text.{body_exact}
 use Rattle.celllines.specs.Columns.{pages}
+use Rattle.fields.specs.declared.Malformed.{Malformed}
 use Rattle.rulelines.specs.declared.RuleSection.{RuleSection}
-use Rattle.rulelines.specs.RuleSections.{section_of as rules_of}
 use Rattle.reader.specs.declared.Start.{Start}
 use Rattle.reader.specs.declared.ReadJob.{ReadJob}
-use Rattle.reader.specs.Held.{Held, held, refused_as, taken_as, fits_in, read_job}
-use Rattle.reader.specs.Results.{columns_in, IsBody, no_start, started, start_of, start_if, finished_if, finished, JobLeft}
+use Rattle.reader.specs.declared.Unread.{Unread}
+use Rattle.reader.specs.Held.{Held, held, taken_as, fits_in, read_job}
+use Rattle.reader.specs.Results.{columns_in, IsBody, started, start_of, start_if, finished_if, finished, JobLeft}
 use Rattle.reader.proofs.Starts.{Begun}
 use Rattle.reader.proofs.Fits.{cells_number, regions_number, pool_number, fits_laid, pool_laid}
 
 -- ---- refused in the first two lines
 
-abbrev Says : List ℕ → Held → ReadJob → Held → Type 0
+abbrev Says : List ℕ → Held → Result ReadJob Unread → Held → Type 0
 Says s h r e = (r ≡ read_job h (read s)) × JobLeft (read s) h e
 
-pub start_refused : (s : List ℕ) (h : Held) {t : Start} {r : ReadJob} (e : Held) → t ≡ start_if (ltb max_text (length s)) s
-    → (t.number ≡ 0 → ⊥) → r ≡ refused_as t.number t.line t.start → Says s h r e
+pub start_refused : (s : List ℕ) (h : Held) {u : Unread} (r : Result ReadJob Unread) (e : Held)
+    → Err u ≡ start_if (ltb max_text (length s)) s → r ≡ Err u → Says s h r e
 unfolding read headed read_job
-start_refused s h {t} {r} e x n y = go (ltb max_text (length s)) refl x
+start_refused s h {u} r e x y = go (ltb max_text (length s)) refl x
   where
+    said : (v : Unread) → u ≡ v → r ≡ Err v
+    said v z = y ∙ ap (λ (k : Unread). Err k) z
+
     counts : (k : Head) (q : ℕ) → ltb max_text (length s) ≡ false → head.parse s 0 ≡ got k q
-        → (o : Bool) → over k ≡ o → t ≡ cond o (no_start 2 0 k.start) (started k q) → Says s h r e
-    counts k q l f true u x = rw (l, f, u) (y ∙ rw x, tt)
-    counts k q l f false u x = absurd (n (ap (λ (a : Start). a.number) x))
+        → (o : Bool) → over k ≡ o → Err u ≡ cond o (Err (Unread.TooMany k.start)) (Ok (started k q)) → Says s h r e
+    counts k q l f true o x = rw (l, f, o) (said (Unread.TooMany k.start) (cc), tt)
+    counts k q l f false o x = absurd (cc)
 
-    heads : (g : Got Head) → ltb max_text (length s) ≡ false → head.parse s 0 ≡ g → t ≡ start_of s g → Says s h r e
+    heads : (g : Got Head) → ltb max_text (length s) ≡ false → head.parse s 0 ≡ g → Err u ≡ start_of s g → Says s h r e
     heads (got k q) l f x = counts k q l f (over k) refl x
-    heads (bad p) l f x = rw (l, f) (y ∙ rw x, tt)
+    heads (bad p) l f x = rw (l, f) (said (Unread.Malformed (line_of s p)) (cc), tt)
 
-    go : (b : Bool) → ltb max_text (length s) ≡ b → t ≡ start_if b s → Says s h r e
-    go true l x = rw l (y ∙ rw x, tt)
+    go : (b : Bool) → ltb max_text (length s) ≡ b → Err u ≡ start_if b s → Says s h r e
+    go true l x = rw l (said Unread.TooLong (cc), tt)
     go false l x = heads (head.parse s 0) l refl x
-
--- ---- the end of the text
-
-module _ (s : List ℕ) (t : Start) (b : RuleSection) (fits : Bool) where
-  pub sections_refused : {r : ReadJob} {line : ℕ} → not b.ok ≡ true → line ≡ line_of s b.next → r ≡ refused_as 11 line 0
-      → r ≡ finished s t b fits
-  sections_refused x l e = let z = not-true b.ok x in rw (z, e, l)
-
-  pub line_too_many : {r : ReadJob} {line : ℕ} → (b.next ≡ length s → ⊥) → line ≡ line_of s b.next → r ≡ refused_as 11 line 0
-      → r ≡ finished s t b fits
-  line_too_many x l e = let z = ne_eqb b.next (length s) x in rw (z, e, l) (go b.ok)
-    where
-      go : (o : Bool) → refused_as 11 (line_of s b.next) 0 ≡ finished_if (o && false) (fits && b.fits) s t b
-      go true = refl
-      go false = refl
-
-  module _ (x : not b.ok ≡ false) (y : b.next ≡ length s) where
-    ok : b.ok ≡ true
-    ok = not-false b.ok x
-
-    at_end : eqb b.next (length s) ≡ true
-    at_end = eq-eqb b.next (length s) y
-
-    pub columns_short : {r : ReadJob} → fits ≡ false → r ≡ refused_as 6 0 t.start → r ≡ finished s t b fits
-    columns_short n e = rw (ok, at_end, n, e)
-
-    pub pool_short : {r : ReadJob} → fits ≡ true → not b.fits ≡ true → r ≡ refused_as 6 0 t.start → r ≡ finished s t b fits
-    pool_short o n e = rw (ok, at_end, o, not-true b.fits n, e)
-
-    pub all_read : fits ≡ true → not b.fits ≡ false → finished_if true true s t b ≡ finished s t b fits
-    all_read o n = rw (ok, at_end, o, not-false b.fits n)
 
 -- ---- the job as it is laid
 
+-- rules that were read, with their names behind `used` bytes of a pool
+abbrev rules_read : ℕ → ℕ → List RuleLine → ℕ → RuleSection
+rules_read used size rs q =
+    record {
+      fits = fits size used (length (rule_bytes rs));
+      next = q;
+      used = used + length (rule_bytes rs);
+      rules = records_from used rs;
+    }
+
 -- the answer, from what the sections answer
 answer_laid : (k : Head) (b : body_t) (c : (body k).Ok b) (q size p : ℕ) (s : List ℕ)
-    → finished_if true true s (started k q) (rules_of (length k.name + length (cell_bytes b.0)) size (got b.1.1 p))
-    ≡ taken_as (laid (to_job (k, b))) k.limit
+    → finished_if true true s (started k q) (rules_read (length k.name + length (cell_bytes b.0)) size b.1.1 p)
+    ≡ Ok (taken_as (laid (to_job (k, b))) k.limit)
 unfolding laid columns_from
 answer_laid k b c q size p s =
     rw (
@@ -108,13 +91,13 @@ module _ (s : List ℕ) (k : Head) (q : ℕ) (d : CellColumns) (rows cols pool :
   abbrev named : Held
   named = held d rows cols (page_of true (length pool) k.name)
 
-  abbrev Closed : ReadResult → ReadJob → Held → Type 0
+  abbrev Closed : ReadResult → Result ReadJob Unread → Held → Type 0
   Closed z x e = (x ≡ read_job lent z) × JobLeft z lent e
 
   long : length (page_of true (length pool) k.name) ≡ length pool
   long = length_page 0 (length pool) k.name true
 
-  module _ {x : ReadJob} {fits : Bool} (r : RuleSection) (e : Held) (o : fits ≡ columns_in k.cells k.regions d rows cols)
+  module _ {x : Result ReadJob Unread} {fits : Bool} (r : Result RuleSection Malformed) (e : Held) (o : fits ≡ columns_in k.cells k.regions d rows cols)
       (y : x ≡ finished s (started k q) r fits) where
     -- all was read, up to the end of the text
     job_closed : (b : body_t) (p : ℕ) → (body k).Ok b → IsBody (got b p) (length k.name) named r e → eqb p (length s) ≡ true
@@ -132,8 +115,8 @@ module _ (s : List ℕ) (k : Head) (q : ℕ) (d : CellColumns) (rows cols pool :
       where
         go : (v : Bool)
             → finished_if true v s (started k q)
-            (rules_of (length k.name + length (cell_bytes b.0)) (length pool) (got b.1.1 p))
-            ≡ cond v (taken_as (laid (to_job (k, b))) k.limit) (refused_as 6 0 k.start)
+            (rules_read (length k.name + length (cell_bytes b.0)) (length pool) b.1.1 p)
+            ≡ cond v (Ok (taken_as (laid (to_job (k, b))) k.limit)) (Err (Unread.SpaceShort k.start))
         go true = answer_laid k b c q (length pool) p s
         go false = refl
 
@@ -149,14 +132,14 @@ module _ (s : List ℕ) (k : Head) (q : ℕ) (d : CellColumns) (rows cols pool :
 
         go : (g : Got body_t) → (body k).parse s q ≡ g → IsBody g (length k.name) named r e → Closed (closed s k g) x e
         go (got b p) f i = ends b p f i (eqb p (length s)) refl
-        go (bad p) f i = (y ∙ rw (i.0, i.1), tt)
+        go (bad p) f i = (y ∙ rw i, tt)
 
 module _ {s : List ℕ} {t : Start} {pool after : List ℕ} (b : Begun s t pool after) (d : CellColumns) (rows cols : List ℕ) where
   reads : read s ≡ closed s b.first ((body b.first).parse s b.place)
   unfolding read headed
   reads = rw (b.short, b.headed_as, b.counted)
 
-  pub text_finished : {x : ReadJob} {fits : Bool} (r : RuleSection) (e : Held)
+  pub text_finished : {x : Result ReadJob Unread} {fits : Bool} (r : Result RuleSection Malformed) (e : Held)
       → IsBody ((body_of t.cells t.regions t.rules).parse s t.next) t.name (held d rows cols after) r e
       → fits ≡ columns_in t.cells t.regions d rows cols → x ≡ finished s t r fits → Says s (held d rows cols pool) x e
   text_finished {x} {fits} r e i o y =

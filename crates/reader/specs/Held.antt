@@ -1,37 +1,21 @@
 -- What reading a whole job text answers, and what it leaves in the columns and in the pool: the job alone from index 0 on, or zeros from
 -- end to end where the text is refused or the job is longer than a column or the pool. Assumes nothing.
-use Rattle.std.specs.Prelude.{ℕ, Bool, cond, ◌&&◌, List, leb, length, replicate}
+use Rattle.std.specs.Prelude.{ℕ, Bool, cond, ◌&&◌, List, leb, length, Result, Ok, Err}
 use Rattle.memory.specs.Memory.{page_of}
 use Rattle.model.specs.Sheet.{CellColumns}
 use Rattle.model.specs.Job.{Job}
 use Rattle.jobtext.specs.Read.{ReadResult}
-use Rattle.jobtext.specs.Laid.{blank_rule, laid}
+use Rattle.jobtext.specs.Laid.{laid}
 use Rattle.celllines.specs.Columns.{zero_columns, zeroed, pages}
 use Rattle.reader.specs.declared.ReadJob.{ReadJob}
+use Rattle.reader.specs.declared.Unread.{Unread}
 
 -- ---- the answer
-
--- no job, by the number of the refusal, its line and the starting count
-abbrev pub refused_as : ℕ → ℕ → ℕ → ReadJob
-refused_as number line start =
-    record {
-      number = number;
-      line = line;
-      start = start;
-      limit = 0;
-      cells = 0;
-      regions = 0;
-      used = 0;
-      name = record { at = 0; len = 0 };
-      rules = record { records = replicate 64 blank_rule; number = 0 };
-    }
 
 -- a job as it is laid, with the limit
 abbrev pub taken_as : Job → ℕ → ReadJob
 taken_as j limit =
     record {
-      number = 0;
-      line = 0;
       start = j.start;
       limit = limit;
       cells = length j.cells.rows;
@@ -78,11 +62,11 @@ cleared h = held (zero_columns h.cells) (zeroed h.region_rows) (zeroed h.region_
 
 -- ---- the reader
 
-unfoldable pub read_job : Held → ReadResult → ReadJob
-read_job h (ReadResult.is j) = cond (fits_in (laid j) h) (taken_as (laid j) j.limit) (refused_as 6 0 j.start)
-read_job h ReadResult.too_long = refused_as 10 0 0
-read_job h (ReadResult.bad_line line) = refused_as 11 line 0
-read_job h (ReadResult.too_many start) = refused_as 2 0 start
+unfoldable pub read_job : Held → ReadResult → Result ReadJob Unread
+read_job h (ReadResult.is j) = cond (fits_in (laid j) h) (Ok (taken_as (laid j) j.limit)) (Err (Unread.SpaceShort j.start))
+read_job h ReadResult.too_long = Err Unread.TooLong
+read_job h (ReadResult.bad_line line) = Err (Unread.Malformed line)
+read_job h (ReadResult.too_many start) = Err (Unread.TooMany start)
 
 unfoldable pub held_after : ReadResult → Held → Held
 held_after (ReadResult.is j) h = laid_in (fits_in (laid j) h) (laid j) h

@@ -1,7 +1,7 @@
 -- The contracts of the reader's inner functions, in the shape of the program: its two first lines with the tests on length and counts,
 -- the sections behind them, and the end. What reading a job text comes to is defined in jobtext (`read`) and Held.antt; nothing here adds
 -- to it. Assumes nothing.
-use Rattle.std.specs.Prelude.{ℕ, ◌+◌, ◌≤◌, Bool, true, false, cond, ◌&&◌, List, ◌≡◌, eqb, leb, length}
+use Rattle.std.specs.Prelude.{ℕ, ◌+◌, ◌≤◌, Bool, true, false, cond, ◌&&◌, List, ◌≡◌, eqb, leb, length, Result, Ok, Err}
 use Rattle.memory.specs.Memory.{all_or_zeros, page_of}
 use Rattle.model.specs.Sheet.{CellColumns}
 use Rattle.grammar.specs.Gram.{Got, line_of}
@@ -11,22 +11,24 @@ use Rattle.jobtext.specs.Read.{ReadResult, over}
 use Rattle.jobtext.specs.Laid.{cell_bytes, columns_from, rule_bytes, laid}
 use Rattle.celllines.specs.Columns.{pages}
 use Rattle.regionlines.specs.Regions.{rows_of, cols_of}
+use Rattle.fields.specs.declared.Malformed.{Malformed}
 use Rattle.rulelines.specs.declared.RuleSection.{RuleSection}
 use Rattle.rulelines.specs.RuleSections.{section_of as rules_of}
 use Rattle.reader.specs.declared.Start.{Start}
 use Rattle.reader.specs.declared.ReadJob.{ReadJob}
-use Rattle.reader.specs.Held.{Held, held, refused_as, fits_in, laid_in}
+use Rattle.reader.specs.declared.Unread.{Unread}
+use Rattle.reader.specs.Held.{Held, held, fits_in, laid_in}
 
 -- ---- behind the cells
 
 -- the regions are alone in columns that are long enough; the rules' names go to a pool from `used` on
-abbrev pub IsTail : Got tail_t → ℕ → List ℕ → List ℕ → List ℕ → RuleSection → List ℕ → List ℕ → List ℕ → Type 0
+abbrev pub IsTail : Got tail_t → ℕ → List ℕ → List ℕ → List ℕ → Result RuleSection Malformed → List ℕ → List ℕ → List ℕ → Type 0
 IsTail (got x q) used rows cols pool r rows' cols' pool' =
     (r ≡ rules_of used (length pool) (got x.1 q))
     × (length x.0 ≤ length rows → length x.0 ≤ length cols
     → (rows' ≡ page_of true (length rows) (rows_of x.0)) × (cols' ≡ page_of true (length cols) (cols_of x.0)))
     × (pool' ≡ all_or_zeros true pool used (rule_bytes x.1))
-IsTail (bad p) used rows cols pool r rows' cols' pool' = (r.ok ≡ false) × (r.next ≡ p)
+IsTail (bad p) used rows cols pool r rows' cols' pool' = r ≡ Err (record { at = p })
 
 -- ---- all sections
 
@@ -50,7 +52,7 @@ columns_in cells regions d rows cols =
     (length d.ats) (length d.lens) (length rows) (length cols)
 
 -- cells and regions are alone in columns that are long enough, and the texts go to the pool from `used` on, if they fit
-abbrev pub IsBody : Got body_t → ℕ → Held → RuleSection → Held → Type 0
+abbrev pub IsBody : Got body_t → ℕ → Held → Result RuleSection Malformed → Held → Type 0
 IsBody (got b q) used h r e =
     let u = used + length (cell_bytes b.0) in
     (r ≡ rules_of u (length h.pool) (got b.1.1 q))
@@ -59,19 +61,13 @@ IsBody (got b q) used h r e =
     → e ≡ held (pages true (columns_from used b.0) h.cells) (page_of true (length h.region_rows) (rows_of b.1.0))
     (page_of true (length h.region_cols) (cols_of b.1.0))
     (all_or_zeros true (all_or_zeros true h.pool used (cell_bytes b.0)) u (rule_bytes b.1.1)))
-IsBody (bad p) used h r e = (r.ok ≡ false) × (r.next ≡ p)
+IsBody (bad p) used h r e = r ≡ Err (record { at = p })
 
 -- ---- the first two lines
-
-abbrev pub no_start : ℕ → ℕ → ℕ → Start
-no_start number line start =
-    record { number = number; line = line; limit = 0; start = start; cells = 0; regions = 0; rules = 0; name = 0; next = 0 }
 
 abbrev pub started : Head → ℕ → Start
 started h q =
     record {
-      number = 0;
-      line = 0;
       limit = h.limit;
       start = h.start;
       cells = h.cells;
@@ -81,13 +77,13 @@ started h q =
       next = q;
     }
 
-abbrev pub start_of : List ℕ → Got Head → Start
-start_of s (got h q) = cond (over h) (no_start 2 0 h.start) (started h q)
-start_of s (bad p) = no_start 11 (line_of s p) 0
+abbrev pub start_of : List ℕ → Got Head → Result Start Unread
+start_of s (got h q) = cond (over h) (Err (Unread.TooMany h.start)) (Ok (started h q))
+start_of s (bad p) = Err (Unread.Malformed (line_of s p))
 
 -- too long, or as the first two lines say
-abbrev pub start_if : Bool → List ℕ → Start
-start_if true s = no_start 10 0 0
+abbrev pub start_if : Bool → List ℕ → Result Start Unread
+start_if true s = Err Unread.TooLong
 start_if false s = start_of s (head.parse s 0)
 
 -- the pool holds the sheet's name where nothing is refused yet
@@ -99,11 +95,9 @@ Named false (bad p) pool pool' = Unit {0}
 -- ---- the end of the text
 
 -- nothing may follow the sections, and the job has to fit
-abbrev pub finished_if : Bool → Bool → List ℕ → Start → RuleSection → ReadJob
+abbrev pub finished_if : Bool → Bool → List ℕ → Start → RuleSection → Result ReadJob Unread
 finished_if true true s t b =
-    record {
-      number = 0;
-      line = 0;
+    Ok (record {
       start = t.start;
       limit = t.limit;
       cells = t.cells;
@@ -111,12 +105,13 @@ finished_if true true s t b =
       used = b.used;
       name = record { at = 0; len = t.name };
       rules = b.rules;
-    }
-finished_if true false s t b = refused_as 6 0 t.start
-finished_if false fits s t b = refused_as 11 (line_of s b.next) 0
+    })
+finished_if true false s t b = Err (Unread.SpaceShort t.start)
+finished_if false fits s t b = Err (Unread.Malformed (line_of s b.next))
 
-abbrev pub finished : List ℕ → Start → RuleSection → Bool → ReadJob
-finished s t b fits = finished_if (b.ok && eqb b.next (length s)) (fits && b.fits) s t b
+abbrev pub finished : List ℕ → Start → Result RuleSection Malformed → Bool → Result ReadJob Unread
+finished s t (Ok b) fits = finished_if (eqb b.next (length s)) (fits && b.fits) s t b
+finished s t (Err m) fits = Err (Unread.Malformed (line_of s m.at))
 
 -- what was left where a job was read that fits
 abbrev pub JobLeft : ReadResult → Held → Held → Type 0

@@ -1,63 +1,22 @@
--- The loops over bytes: at a position what is left of a text says what the whole says, so that a byte that fails answers at once.
--- Assumes nothing.
-use Prim.Native.Nat.{ℕ, suc, ◌+◌, ◌≤◌, ◌<◌}
-use mathlib.Core.Path.{◌≡◌, refl, sym, ap, ◌∙◌}
-use mathlib.Core.Bool.{Bool, true, false, not, ◌&&◌, and-false}
-use mathlib.Core.List.{List, [], ◌∷◌, map}
-use native.Mathlib.Numerals.{add-one}
-use native.Mathlib.Omega.{arith}
-use lib.Dec.{ltb, eqb}
-use lib.ListN.{length, get_or, drop, drop_of_length-le}
-use lib.Seq.{drop-cons}
-use borrow.Author.Tests.{lt-ltb, le-ltb, eq-eqb, ne_eqb}
-use Rattle.model.specs.Readings.{every, ascii, plain_text, same_bytes}
+-- What std's calls answer over bytes, in the words of the definitions. Assumes nothing.
+use Rattle.std.proofs.Common.{◌≡◌, ℕ, Bool, true, false, not, ◌&&◌, List, [], ◌∷◌, map, ltb, eqb, refl, sym, ap, ◌∙◌, arith, ◌↔◌, cond, Some, None, Float}
+use Rattle.std.specs.List.{list_all}
+use Rattle.std.specs.Bool.{Decides, then_some}
+use Rattle.std.specs.Float.{float_is_finite, nan, inf, fin}
+use Rattle.std.specs.Char.{to_ascii_lowercase}
+use Rattle.std.specs.Cmp.Lexicographic.{pointwise}
+use Rattle.std.specs.Str.{bytes_eq}
+use Rattle.std.proofs.lemmas.Slice.Eq.{bytes_eq-Decides}
+use Rattle.model.specs.Readings.{every, ascii, plain_text, same_bytes, same_letters, lower, finite}
 
--- ---- a test of every byte
-
-pub record EveryFrom (test : ℕ → Bool) (xs : List ℕ) (i : ℕ) : Type 0 where
-  pub within : i ≤ length xs
-  pub left : every test (drop i xs) ≡ every test xs
-
-every_cons : (test : ℕ → Bool) (xs : List ℕ) (i : ℕ) → i < length xs
-    → every test (drop i xs) ≡ test (get_or xs i 0) && every test (drop (i + 1) xs)
+pub every_is : (test : ℕ → Bool) (xs : List ℕ) → list_all test xs ≡ every test xs
 unfolding every
-every_cons test xs i h = rw (add-one, drop-cons xs i 0)
-
-module _ {test : ℕ → Bool} {xs : List ℕ} where
-  pub every_begun : EveryFrom test xs 0
-  every_begun = record { within = omega arith; left = refl }
-
-  module _ {i : ℕ} (v : EveryFrom test xs i) where
-    pub every_passed : i < length xs → test (get_or xs i 0) ≡ true → EveryFrom test xs (i + 1)
-    every_passed h e =
-        record {
-          within = omega arith;
-          left = ap (λ (t : Bool). t && every test (drop (i + 1) xs)) (sym e) ∙ sym (every_cons test xs i h) ∙ v.left;
-        }
-
-    pub every_failed : i < length xs → test (get_or xs i 0) ≡ false → false ≡ every test xs
-    every_failed h e = ap (λ (t : Bool). t && every test (drop (i + 1) xs)) (sym e) ∙ sym (every_cons test xs i h) ∙ v.left
-
-    pub every_ended : length xs ≤ i → true ≡ every test xs
-    unfolding every
-    every_ended h = sym (ap (every test) (drop_of_length-le xs h)) ∙ v.left
+every_is test [] = refl
+every_is test (x ∷ xs) = ap (λ (t : Bool). test x && t) (every_is test xs)
 
 -- a byte of a text with a key
 abbrev pub plain_byte : ℕ → Bool
 plain_byte b = ltb b 128 && (not (eqb b 42) && not (eqb b 63))
-
-module _ {b : ℕ} where
-  pub plain_high : 128 ≤ b → plain_byte b ≡ false
-  plain_high h = rw (le-ltb b 128 h)
-
-  pub plain_star : b ≡ 42 → plain_byte b ≡ false
-  plain_star h = rw h
-
-  pub plain_question : b ≡ 63 → plain_byte b ≡ false
-  plain_question h = rw h
-
-  pub plain_other : b < 128 → (b ≡ 42 → ⊥) → (b ≡ 63 → ⊥) → plain_byte b ≡ true
-  plain_other l h k = rw (lt-ltb b 128 l, ne_eqb b 42 h, ne_eqb b 63 k)
 
 and_exchange : (a b c d : Bool) → (a && b) && (c && d) ≡ (a && c) && (b && d)
 and_exchange false b c d = refl
@@ -65,51 +24,51 @@ and_exchange true true c d = refl
 and_exchange true false true d = refl
 and_exchange true false false d = refl
 
-pub every_plain : (bs : List ℕ) → every plain_byte bs ≡ plain_text bs
+every_plain : (bs : List ℕ) → every plain_byte bs ≡ plain_text bs
 unfolding plain_text ascii every
 every_plain [] = refl
 every_plain (b ∷ bs) =
     ap (λ (t : Bool). plain_byte b && t) (every_plain bs)
     ∙ and_exchange (ltb b 128) (not (eqb b 42) && not (eqb b 63)) (ascii bs) (every (λ b. not (eqb b 42) && not (eqb b 63)) bs)
 
--- ---- two texts of one length, each byte taken by f
+pub plain_is : (xs : List ℕ) → list_all plain_byte xs ≡ plain_text xs
+plain_is xs = every_is plain_byte xs ∙ every_plain xs
 
-abbrev same_rest : (ℕ → ℕ) → List ℕ → List ℕ → ℕ → Bool
-same_rest f xs ys i = same_bytes (map f (drop i xs)) (map f (drop i ys))
-
-pub record SameFrom (f : ℕ → ℕ) (xs ys : List ℕ) (i : ℕ) : Type 0 where
-  pub lengths : length xs ≡ length ys
-  pub within : i ≤ length xs
-  pub left : same_rest f xs ys i ≡ same_bytes (map f xs) (map f ys)
-
-pub same_lengths : (f : ℕ → ℕ) (xs ys : List ℕ) → (length xs ≡ length ys → ⊥) → false ≡ same_bytes (map f xs) (map f ys)
+pub bytes_are : (xs ys : List ℕ) → pointwise eqb xs ys ≡ same_bytes xs ys
 unfolding same_bytes
-same_lengths f [] [] h = absurd (h refl)
-same_lengths f [] (y ∷ ys) h = refl
-same_lengths f (x ∷ xs) [] h = refl
-same_lengths f (x ∷ xs) (y ∷ ys) h =
-    sym (and-false (eqb (f x) (f y))) ∙ ap (λ (t : Bool). eqb (f x) (f y) && t) (same_lengths f xs ys (λ e. h (ap suc e)))
+bytes_are [] [] = refl
+bytes_are [] (y ∷ ys) = refl
+bytes_are (x ∷ xs) [] = refl
+bytes_are (x ∷ xs) (y ∷ ys) = ap (λ (t : Bool). eqb x y && t) (bytes_are xs ys)
 
-module _ {f : ℕ → ℕ} {xs ys : List ℕ} where
-  pub same_begun : length xs ≡ length ys → SameFrom f xs ys 0
-  same_begun h = record { lengths = h; within = omega arith; left = refl }
+pub lower_is : (b : ℕ) → to_ascii_lowercase b ≡ lower b
+unfolding lower
+lower_is b = grind arith
 
-  module _ {i : ℕ} (v : SameFrom f xs ys i) where
-    same_cons : i < length xs → same_rest f xs ys i ≡ eqb (f (get_or xs i 0)) (f (get_or ys i 0)) && same_rest f xs ys (i + 1)
-    unfolding same_bytes
-    same_cons h = let k : i < length ys = omega arith in rw (add-one, drop-cons xs i 0, drop-cons ys i 0)
+map_lower : (xs : List ℕ) → map to_ascii_lowercase xs ≡ map lower xs
+map_lower [] = refl
+map_lower (x ∷ xs) = cc (lower_is x, map_lower xs)
 
-    pub same_passed : i < length xs → f (get_or xs i 0) ≡ f (get_or ys i 0) → SameFrom f xs ys (i + 1)
-    same_passed h e =
-        record {
-          lengths = v.lengths;
-          within = omega arith;
-          left = ap (λ (t : Bool). t && same_rest f xs ys (i + 1)) (sym (eq-eqb _ _ e)) ∙ sym (same_cons h) ∙ v.left;
-        }
+same_answer : (a b : Bool) (P : Type 0) → ((a ≡ true) ↔ P) → Decides b P → a ≡ b
+same_answer true true P h d = refl
+same_answer false false P h d = refl
+same_answer true false P h d = sym (d.1 (h.0 refl))
+same_answer false true P h d = h.1 (d.0 refl)
 
-    pub same_failed : i < length xs → (f (get_or xs i 0) ≡ f (get_or ys i 0) → ⊥) → false ≡ same_bytes (map f xs) (map f ys)
-    same_failed h e = ap (λ (t : Bool). t && same_rest f xs ys (i + 1)) (sym (ne_eqb _ _ e)) ∙ sym (same_cons h) ∙ v.left
+pub letters_are : (xs ys : List ℕ) (r : Bool) → ((r ≡ true) ↔ (map to_ascii_lowercase xs ≡ map to_ascii_lowercase ys)) → r ≡ same_letters xs ys
+unfolding same_letters
+letters_are xs ys r h =
+    let low : List ℕ → List ℕ = λ zs. map to_ascii_lowercase zs in
+    same_answer r (bytes_eq (low xs) (low ys)) _ h (bytes_eq-Decides (low xs) (low ys))
+    ∙ bytes_are (low xs) (low ys)
+    ∙ rw (map_lower xs, map_lower ys)
 
-    pub same_ended : length xs ≤ i → true ≡ same_bytes (map f xs) (map f ys)
-    unfolding same_bytes
-    same_ended h = let k : length ys ≤ i = omega arith in rw (drop_of_length-le xs h, drop_of_length-le ys k) at v.left
+pub then_is : {A : Type 0} (b : Bool) (x : A) → then_some b x ≡ cond b (Some x) None
+then_is true x = refl
+then_is false x = refl
+
+pub finite_is : (x : Float) → float_is_finite x ≡ finite x
+unfolding float_is_finite finite
+finite_is nan = refl
+finite_is (inf s) = refl
+finite_is (fin s m e) = refl

@@ -6,14 +6,14 @@ ghost use Rattle.model.specs.Readings.{finite, numeric_cell_value};
 ghost use Rattle.model.specs.References.{literal};
 ghost use Rattle.model.specs.Sheet.{value_of};
 
-use model::{Cell, CellValue, Reading, Span};
+use model::{Cell, CellValue, Span};
 
-// Neither not-a-number nor infinite: strictly between the two infinities.
+// Neither not-a-number nor infinite.
+#[tactic(auto, using(crate::proofs::Bytes::finite_is))]
 pub fn is_finite(x: f64) -> bool
     ensures { result ≡ finite x }
 {
-    let top = f64::from_bits(0x7ff0_0000_0000_0000);
-    -top < x && x < top
+    x.is_finite()
 }
 
 // The number of a bit pattern. Every pattern of a not-a-number is the one that there is.
@@ -27,6 +27,7 @@ pub fn float_of_bits(bits: u64) -> f64
 }
 
 // The value of a cell from its columns. An unknown kind gives an error.
+#[tactic(auto, unfolding(model::specs::Sheet::value_of))]
 pub fn cell_value(kind: u8, bits: u64, at: u32, len: u32) -> CellValue
     ensures { result ≡ value_of kind bits at len }
 {
@@ -40,28 +41,23 @@ pub fn cell_value(kind: u8, bits: u64, at: u32, len: u32) -> CellValue
 }
 
 // What a number reads as: a non-finite one as nothing.
-pub fn finite_reading(x: f64) -> Reading
+#[tactic(auto, using(crate::proofs::Bytes::then_is), unfolding(model::specs::References::literal))]
+pub fn finite_reading(x: f64) -> Option<f64>
     ensures { result ≡ literal x }
 {
-    if is_finite(x) {
-        return Reading::Number(x);
-    }
-    Reading::Nothing
+    is_finite(x).then_some(x)
 }
 
 // Port of numeric_cell_value (conditional.rs).
-pub fn numeric_cell_value(cell: Cell) -> Reading
+#[tactic(auto, unfolding(model::specs::Readings::numeric_cell_value, model::specs::Readings::numeric_value, model::specs::References::literal))]
+pub fn numeric_cell_value(cell: Cell) -> Option<f64>
     ensures { result ≡ numeric_cell_value cell }
 {
     if cell.wraps > 64 {
-        return Reading::Nothing;
+        return None;
     }
-    let value = cell.value;
-    match value {
-        CellValue::Number(x) => finite_reading(x),
-        CellValue::Date(x) => finite_reading(x),
-        CellValue::Text(_) => Reading::Nothing,
-        CellValue::Bool(_) => Reading::Nothing,
-        CellValue::Error => Reading::Nothing,
+    match cell.value {
+        CellValue::Number(x) | CellValue::Date(x) => finite_reading(x),
+        CellValue::Text(_) | CellValue::Bool(_) | CellValue::Error => None,
     }
 }

@@ -1,5 +1,6 @@
 -- The front of the memory of a whole job, after a text was read into it, is the job that the text says. Assumes nothing.
-use Prim.Native.Nat.{ℕ, suc, ◌-◌, ◌≤◌}
+use Rattle.std.specs.Prelude.{Ok}
+use Prim.Native.Nat.{ℕ, ◌-◌, ◌≤◌}
 use mathlib.Core.Path.{◌≡◌, refl, sym, ap, ◌∙◌, subst}
 use mathlib.Core.Bool.{true}
 use mathlib.Core.List.{List}
@@ -78,11 +79,8 @@ laid_regions : (j : JobText) → Fits j → length (laid j).region_rows ≤ 1024
 unfolding laid
 laid_regions j f = omega (arith, f.regions, length-map j.regions (λ (r : CellCoordinate). r.row))
 
-module _ (s : List ℕ) {job : ReadJob} {h : Held} (is : job ≡ read_job whole_memory (read s)) (zero : job.number ≡ 0)
+module _ (s : List ℕ) {job : ReadJob} {h : Held} (is : Ok job ≡ read_job whole_memory (read s))
     (left : h ≡ held_after (read s) whole_memory) where
-  no_job : (n : ℕ) → suc n ≡ job.number → ⊥
-  no_job n e = let z : suc n ≡ 0 = e ∙ zero in omega arith
-
   -- the text says a job, and the memory holds it
   pub record Read : Type 0 where
     pub said : JobText
@@ -93,12 +91,13 @@ module _ (s : List ℕ) {job : ReadJob} {h : Held} (is : job ≡ read_job whole_
     pub limit : job.limit ≡ said.limit
     pub holds : job_in job h ≡ laid said
 
-  read_as : (x : ReadResult) → read s ≡ x → job ≡ read_job whole_memory x → h ≡ held_after x whole_memory → Read
+  read_as : (x : ReadResult) → read s ≡ x → Ok job ≡ read_job whole_memory x → h ≡ held_after x whole_memory → Read
   unfolding read_job held_after
   read_as (ReadResult.is j) e i₀ l₀ =
       let f = read_fits s j e in
       let fits = never_short s j e in
-      let i : job ≡ taken_as (laid j) j.limit = i₀ ∙ rw fits in
+      let said : Ok job ≡ Ok (taken_as (laid j) j.limit) = i₀ ∙ rw fits in
+      let i : job ≡ taken_as (laid j) j.limit = cc in
       let l : h ≡ laid_in true (laid j) whole_memory = l₀ ∙ rw fits in
       record {
         said = j;
@@ -109,9 +108,9 @@ module _ (s : List ℕ) {job : ReadJob} {h : Held} (is : job ≡ read_job whole_
         limit = ap (λ (k : ReadJob). k.limit) i;
         holds = ap (λ (k : ReadJob). job_in k h) i ∙ (ap (job_in (taken_as (laid j) j.limit)) l ∙ laid_front j f);
       }
-  read_as ReadResult.too_long e i l = absurd (no_job 9 (sym (ap (λ (k : ReadJob). k.number) i)))
-  read_as (ReadResult.bad_line line) e i l = absurd (no_job 10 (sym (ap (λ (k : ReadJob). k.number) i)))
-  read_as (ReadResult.too_many start) e i l = absurd (no_job 1 (sym (ap (λ (k : ReadJob). k.number) i)))
+  read_as ReadResult.too_long e i l = absurd (cc)
+  read_as (ReadResult.bad_line line) e i l = absurd (cc)
+  read_as (ReadResult.too_many start) e i l = absurd (cc)
 
   pub job_read : Read
   job_read = read_as (read s) refl is left

@@ -3,6 +3,7 @@
 use mathlib.Core.Path.{◌≡◌, refl}
 use mathlib.Core.Bool.{true, false}
 use mathlib.Core.List.{List, [], ◌∷◌}
+use Rattle.std.specs.Prelude.{Ok, Err}
 use Rattle.memory.specs.Memory.{all_or}
 use Rattle.model.specs.declared.CellCoordinate.{CellCoordinate}
 use Rattle.grammar.specs.Gram.{Got}
@@ -13,7 +14,7 @@ use Rattle.regionlines.specs.Regions.{section_of, rows_after, cols_after}
 abbrev two : Got (List CellCoordinate)
 two = got (record { row = 3; col = 4 } ∷ record { row = 5; col = 6 } ∷ []) 8
 
-exact : (section_of two (7 ∷ 7 ∷ []) (9 ∷ 9 ∷ []) ≡ record { ok = true; fits = true; next = 8 })
+exact : (section_of two (7 ∷ 7 ∷ []) (9 ∷ 9 ∷ []) ≡ Ok (record { fits = true; next = 8 }))
     × (rows_after two (7 ∷ 7 ∷ []) (9 ∷ 9 ∷ []) ≡ 3 ∷ 5 ∷ []) × (cols_after two (7 ∷ 7 ∷ []) (9 ∷ 9 ∷ []) ≡ 4 ∷ 6 ∷ [])
 unfolding all_or
 exact = (refl, refl, refl)
@@ -23,16 +24,16 @@ longer : (rows_after two (7 ∷ 7 ∷ 7 ∷ []) (9 ∷ 9 ∷ 9 ∷ 9 ∷ []) ≡
 unfolding all_or
 longer = (refl, refl)
 
-short_rows : (section_of two (7 ∷ []) (9 ∷ 9 ∷ 9 ∷ []) ≡ record { ok = true; fits = false; next = 8 })
+short_rows : (section_of two (7 ∷ []) (9 ∷ 9 ∷ 9 ∷ []) ≡ Ok (record { fits = false; next = 8 }))
     × (rows_after two (7 ∷ []) (9 ∷ 9 ∷ 9 ∷ []) ≡ 0 ∷ []) × (cols_after two (7 ∷ []) (9 ∷ 9 ∷ 9 ∷ []) ≡ 0 ∷ 0 ∷ 0 ∷ [])
 unfolding all_or
 short_rows = (refl, refl, refl)
 
-short_cols : (section_of two (7 ∷ 7 ∷ []) (9 ∷ []) ≡ record { ok = true; fits = false; next = 8 })
+short_cols : (section_of two (7 ∷ 7 ∷ []) (9 ∷ []) ≡ Ok (record { fits = false; next = 8 }))
     × (rows_after two (7 ∷ 7 ∷ []) (9 ∷ []) ≡ 0 ∷ 0 ∷ []) × (cols_after two (7 ∷ 7 ∷ []) (9 ∷ []) ≡ 0 ∷ [])
 unfolding all_or
 short_cols = (refl, refl, refl)
 
-malformed : (section_of (bad 2) (7 ∷ []) (9 ∷ 9 ∷ []) ≡ record { ok = false; fits = false; next = 2 })
+malformed : (section_of (bad 2) (7 ∷ []) (9 ∷ 9 ∷ []) ≡ Err (record { at = 2 }))
     × (rows_after (bad 2) (7 ∷ []) (9 ∷ 9 ∷ []) ≡ 0 ∷ []) × (cols_after (bad 2) (7 ∷ []) (9 ∷ 9 ∷ []) ≡ 0 ∷ 0 ∷ [])
 malformed = (refl, refl, refl)

@@ -1,3 +1,3 @@
-pub mod Lines
+pub mod Told
 pub mod Sections
 pub mod Examples

@@ -1,10 +1,10 @@
 // Rules with all that a text has no place for filled at random, and their names where the second pool has them.
-use crate::layout::{Layout, copy_text, moved};
+use crate::layout::Layout;
 use crate::random::{drawn, low8, low16, low32};
 use comparison::uses_second;
 use model::{
-    A1Reference, CfRule, ConditionalComparison, ConditionalOperand, DvOp, Priority, Range, Rgb,
-    Rule, Rules, SheetName, Span,
+    A1Reference, CfRule, ConditionalComparison, ConditionalOperand, DvOp, Range, Rgb, Rule, Rules,
+    Span,
 };
 use readings::number::float_of_bits;
 
@@ -19,27 +19,11 @@ fn any_rgb(x: u64) -> Rgb {
 }
 
 fn any_dv_op(x: u64) -> DvOp {
-    match x % 8 {
-        0 => DvOp::Between,
-        1 => DvOp::NotBetween,
-        2 => DvOp::Equal,
-        3 => DvOp::NotEqual,
-        4 => DvOp::GreaterThan,
-        5 => DvOp::LessThan,
-        6 => DvOp::GreaterThanOrEqual,
-        _ => DvOp::LessThanOrEqual,
-    }
+    DvOp::try_from(x % 8).unwrap_or(DvOp::LessThanOrEqual)
 }
 
 fn any_comparison(x: u64) -> ConditionalComparison {
-    match x % 6 {
-        0 => ConditionalComparison::Equal,
-        1 => ConditionalComparison::NotEqual,
-        2 => ConditionalComparison::Less,
-        3 => ConditionalComparison::LessOrEqual,
-        4 => ConditionalComparison::Greater,
-        _ => ConditionalComparison::GreaterOrEqual,
-    }
+    ConditionalComparison::try_from(x % 6).unwrap_or(ConditionalComparison::GreaterOrEqual)
 }
 
 // A text that runs past every pool's end.
@@ -61,7 +45,7 @@ fn no_number(x: u64) -> ConditionalOperand {
 
 fn any_reference(x: u64, y: u64) -> ConditionalOperand {
     ConditionalOperand::Reference(A1Reference {
-        sheet: SheetName::Named(outside(x)),
+        sheet: Some(outside(x)),
         row: low32(y),
         col: low16(y / 4294967296),
         row_absolute: x % 2 == 0,
@@ -137,23 +121,15 @@ fn any_kind(x: u64, y: u64) -> CfRule {
     }
 }
 
-fn any_priority(x: u64) -> Priority {
-    if x % 2 == 0 {
-        return Priority::Missing;
-    }
-    Priority::Written(low32(x))
-}
-
 fn any_rule(x: u64, y: u64) -> Rule {
-    let range = Range {
-        top: low32(x),
-        left: low16(y),
-        bottom: low32(y),
-        right: low16(x),
-    };
     Rule {
-        range,
-        priority: any_priority(y),
+        range: Range {
+            top: low32(x),
+            left: low16(y),
+            bottom: low32(y),
+            right: low16(x),
+        },
+        priority: if y % 2 == 0 { None } else { Some(low32(y)) },
         stop: x % 2 == 0,
         imported: y % 2 == 0,
         kind: any_kind(x, y),
@@ -162,36 +138,19 @@ fn any_rule(x: u64, y: u64) -> Rule {
 
 // ---- records of the job
 
-fn filled_name(l: Layout, name: SheetName) -> SheetName {
-    match name {
-        SheetName::This => SheetName::This,
-        SheetName::Named(span) => SheetName::Named(moved(l, span)),
-    }
-}
-
-fn filled_reference(l: Layout, a: A1Reference) -> A1Reference {
-    let name = a.sheet;
+fn filled_reference(l: Layout, reference: A1Reference) -> A1Reference {
     A1Reference {
-        sheet: filled_name(l, name),
-        row: a.row,
-        col: a.col,
-        row_absolute: a.row_absolute,
-        col_absolute: a.col_absolute,
+        sheet: reference.sheet.map(|span| l.moved(span)),
+        ..reference
     }
 }
 
 // An unread operand is written as a literal that is no finite number is.
 fn filled_operand(l: Layout, operand: ConditionalOperand, x: u64) -> ConditionalOperand {
     match operand {
-        ConditionalOperand::Literal(value) => ConditionalOperand::Literal(value),
         ConditionalOperand::Reference(a) => ConditionalOperand::Reference(filled_reference(l, a)),
-        ConditionalOperand::Unread => {
-            if x % 2 == 0 {
-                no_number(x / 2)
-            } else {
-                ConditionalOperand::Unread
-            }
-        }
+        ConditionalOperand::Unread if x % 2 == 0 => no_number(x / 2),
+        _ => operand,
     }
 }
 
@@ -237,15 +196,9 @@ fn filled_kind(l: Layout, kind: CfRule, x: u64, y: u64) -> CfRule {
 }
 
 fn filled_rule(l: Layout, rule: Rule, x: u64, y: u64) -> Rule {
-    let range = rule.range;
-    let priority = rule.priority;
-    let kind = rule.kind;
     Rule {
-        range,
-        priority,
-        stop: rule.stop,
-        imported: rule.imported,
-        kind: filled_kind(l, kind, x, y),
+        kind: filled_kind(l, rule.kind, x, y),
+        ..rule
     }
 }
 
@@ -259,60 +212,36 @@ fn free_rule(l: Layout, used: bool, rule: Rule, i: usize) -> Rule {
     any_rule(x, y)
 }
 
-pub(crate) fn filled_rules(l: Layout, rules: Rules) -> Rules {
-    let mut records = rules.records;
-    let number = rules.number;
-    let mut i = 0;
-    while i < 64 {
-        records[i] = free_rule(l, i < number, records[i], i);
-        i += 1;
+pub(crate) fn filled_rules(l: Layout, rules: &Rules) -> Rules {
+    let mut filled = *rules;
+    for (i, record) in filled.records.iter_mut().enumerate() {
+        *record = free_rule(l, i < rules.number, *record, i);
     }
-    Rules { records, number }
+    filled
 }
 
 // ---- names into the second pool
 
 fn copy_operand(l: Layout, first: &[u8], second: &mut [u8], operand: ConditionalOperand) {
     if let ConditionalOperand::Reference(a) = operand {
-        let name = a.sheet;
-        if let SheetName::Named(span) = name {
-            copy_text(l, first, second, span);
+        if let Some(span) = a.sheet {
+            l.copy_text(first, second, span);
         }
     }
 }
 
 fn copy_kind(l: Layout, first: &[u8], second: &mut [u8], kind: CfRule) {
-    match kind {
-        CfRule::CellIs {
-            op: _,
-            first: one,
-            second: two,
-            fill: _,
-        } => {
-            copy_operand(l, first, second, one);
-            copy_operand(l, first, second, two);
-        }
-        CfRule::Expression {
-            op: _,
-            left,
-            right,
-            fill: _,
-        } => {
-            copy_operand(l, first, second, left);
-            copy_operand(l, first, second, right);
-        }
-        _ => (),
-    }
+    let (one, two) = match kind {
+        CfRule::CellIs { first, second, .. } => (first, second),
+        CfRule::Expression { left, right, .. } => (left, right),
+        _ => return,
+    };
+    copy_operand(l, first, second, one);
+    copy_operand(l, first, second, two);
 }
 
-pub(crate) fn copy_names(l: Layout, first: &[u8], second: &mut [u8], rules: Rules) {
-    let records = rules.records;
-    let number = rules.number;
-    let mut i = 0;
-    while i < 64 && i < number {
-        let rule = records[i];
-        let kind = rule.kind;
-        copy_kind(l, first, second, kind);
-        i += 1;
+pub(crate) fn copy_names(l: Layout, first: &[u8], second: &mut [u8], rules: &Rules) {
+    for rule in rules.declared() {
+        copy_kind(l, first, second, rule.kind);
     }
 }

@@ -10,69 +10,59 @@ pub(crate) const POOL: usize = 65536;
 #[derive(Clone, Copy)]
 pub(crate) struct Layout {
     pub(crate) seed: u64,
-    pub(crate) width: u16,
+    width: u16,
 }
 
-// The first pool is used up to `used`: what the second has to spare is at least as many widths and one more.
-pub(crate) fn draw_layout(seed: u64, used: usize) -> Layout {
-    if used >= POOL {
-        return Layout { seed, width: 0 };
+impl Layout {
+    // The first pool is used up to `used`: what the second has to spare is at least as many widths and one more.
+    pub(crate) fn draw(seed: u64, used: usize) -> Layout {
+        if used >= POOL {
+            return Layout { seed, width: 0 };
+        }
+        let spare = POOL - used;
+        let some = drawn(seed, 1, 0) % (spare as u64 + 1);
+        Layout {
+            seed,
+            width: low16(some / (used as u64 + 1)),
+        }
     }
-    let spare = POOL - used;
-    let some = drawn(seed, 1, 0) % (spare as u64 + 1);
-    Layout {
-        seed,
-        width: low16(some / (used as u64 + 1)),
+
+    // How far before the end of the second pool a text ends.
+    fn room_behind(&self, at: u32) -> u64 {
+        let width = u64::from(self.width);
+        let more = drawn(self.seed, 2, at as usize) % (width + 1);
+        let at = u64::from(at);
+        (at * width).wrapping_add(at.wrapping_add(more))
     }
-}
 
-fn product(a: u32, b: u16) -> u64 {
-    (a as u64) * (b as u64)
-}
-
-// How far before the end of the second pool a text ends.
-fn room_behind(l: Layout, at: u32) -> u64 {
-    let more = drawn(l.seed, 2, at as usize) % (l.width as u64 + 1);
-    product(at, l.width).wrapping_add((at as u64).wrapping_add(more))
-}
-
-// Where a text of the first pool stands in the second.
-pub(crate) fn moved(l: Layout, span: Span) -> Span {
-    let back = room_behind(l, span.at).wrapping_add(span.len as u64);
-    if back > POOL as u64 {
-        return span;
+    // Where a text of the first pool stands in the second.
+    pub(crate) fn moved(&self, span: Span) -> Span {
+        let back = self.room_behind(span.at).wrapping_add(u64::from(span.len));
+        match (POOL as u64).checked_sub(back) {
+            Some(at) => Span {
+                at: low32(at),
+                len: span.len,
+            },
+            None => span,
+        }
     }
-    Span {
-        at: low32(POOL as u64 - back),
-        len: span.len,
+
+    // Copies a text to where it stands in the second pool.
+    pub(crate) fn copy_text(&self, first: &[u8], second: &mut [u8], span: Span) {
+        let to = self.moved(span).at as usize;
+        if let Some(room) = second.get_mut(to..) {
+            for (x, b) in room.iter_mut().zip(text_at(first, span)) {
+                *x = *b;
+            }
+        }
     }
 }
 
 // Bytes that no text has.
 pub(crate) fn fill(pool: &mut [u8], seed: u64) {
     let mut x = drawn(seed, 3, 0);
-    let mut i = 0;
-    while i < pool.len() {
+    for b in pool {
         x = scrambled(x);
-        pool[i] = low8(x);
-        i += 1;
+        *b = low8(x);
     }
-}
-
-fn copy(piece: &[u8], pool: &mut [u8], at: u32) {
-    let mut to = at as usize;
-    let mut i = 0;
-    while i < piece.len() {
-        if to >= pool.len() {
-            return;
-        }
-        pool[to] = piece[i];
-        to += 1;
-        i += 1;
-    }
-}
-
-// Copies a text to where it stands in the second pool.
-pub(crate) fn copy_text(l: Layout, first: &[u8], second: &mut [u8], span: Span) {
-    copy(text_at(first, span), second, moved(l, span).at);
 }

@@ -1,5 +1,6 @@
 -- The definitions computed, on bytes one short, exact and longer: the report of an answer with one mark and one bar, with columns that hold
 -- the mark and with one that does not; the report of a refusal, and of the number 0. The mark's rule is a scale, or none. Assumes nothing.
+use Rattle.std.specs.Prelude.{Ok}
 use Prim.Native.Nat.{ℕ}
 use mathlib.Core.Path.{◌≡◌, refl}
 use mathlib.Core.Bool.{true, false}
@@ -7,10 +8,10 @@ use mathlib.Core.List.{List, [], ◌∷◌, ◌++◌}
 use lib.ListN.{replicate}
 use Rattle.memory.specs.Memory.{all_or, page_of, page_length}
 use Rattle.grammar.specs.Parts.{bytes}
-use Rattle.model.specs.declared.Answer.{Answer}
+use Rattle.model.specs.Options.{Answer}
 use Rattle.model.specs.declared.CfRule.{CfRule}
 use Rattle.model.specs.declared.Rule.{Rule}
-use Rattle.model.specs.Answer.{summary, refusal}
+use Rattle.model.specs.Answer.{summary, refusal, totals}
 use Rattle.model.specs.Job.{mark_space}
 use Rattle.model.specs.Columns.{Columns}
 use Rattle.model.proofs.Computing.{jobs}
@@ -23,7 +24,7 @@ use Rattle.report.specs.Printed.{printed_length, is_refusal}
 -- ---- an answer
 
 abbrev one : Answer
-one = Answer.Answered 5 1 0 0
+one = Ok (totals 5 1 0 0)
 
 -- the columns of the colours and the shapes as given
 abbrev columns : List ℕ → List ℕ → Columns

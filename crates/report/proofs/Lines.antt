@@ -9,8 +9,9 @@ use mathlib.Core.List.{List, [], ◌++◌}
 use lib.ListN.{length}
 use borrow.Author.Tests.{eq-eqb, ne_eqb}
 use Rattle.grammar.specs.Parts.{space, line_feed, times_text}
-use Rattle.put.specs.Put.{last, Laid}
-use Rattle.put.proofs.Laws.{LaidLeft, left_more}
+use Rattle.put.specs.declared.Cursor.{Cursor}
+use Rattle.put.specs.Put.{last, Puts}
+use Rattle.put.proofs.Laws.{PutsLeft, puts_more}
 use Rattle.reporttext.specs.Report.{number, mark_line, bar_line, bar_lines}
 use Rattle.reporttext.specs.Shown.{mark_in, marks_in, bar_of, bar_in, bars_in}
 
@@ -31,10 +32,9 @@ module _ (shaped : ℕ → Bool) (regions rules kinds colours ppms shapes : List
   marks_next n i h = let e : n - i ≡ suc (n - suc i) = omega arith in rw (add-one, e)
 
   -- a line more
-  pub marks_more : {d e f : List ℕ} {at q r : ℕ} (n i : ℕ) → length d < last → i < n → LaidLeft d at (marks_from n 0) e q (marks_from n i)
-      → Laid e q (mark_line shaped (mark_in regions rules kinds colours ppms shapes i)) f r
-      → LaidLeft d at (marks_from n 0) f r (marks_from n (i + 1))
-  marks_more n i room h l a = left_more room l (marks_next n i h) a
+  pub marks_more : {c d e : Cursor} (n i : ℕ) → length c.bytes.now < last → i < n → PutsLeft c (marks_from n 0) d (marks_from n i)
+      → Puts d (mark_line shaped (mark_in regions rules kinds colours ppms shapes i)) e → PutsLeft c (marks_from n 0) e (marks_from n (i + 1))
+  marks_more n i room h l a = puts_more room l (marks_next n i h) a
 
   pub marks_none : (n i : ℕ) → n ≤ i → marks_from n i ≡ []
   unfolding marks_from marks_in times_text
@@ -66,9 +66,9 @@ module _ (rules ppms : List ℕ) where
   bars_next n i h = let e : n - i ≡ suc (n - suc i) = omega arith in rw (add-one, e)
 
   -- a line more
-  pub bars_more : {d e f : List ℕ} {at q r : ℕ} (n i : ℕ) → length d < last → i < n → LaidLeft d at (bars_from n 0) e q (bars_from n i)
-      → Laid e q (bar_line i (bar_in rules ppms i)) f r → LaidLeft d at (bars_from n 0) f r (bars_from n (i + 1))
-  bars_more n i room h l a = left_more room l (bars_next n i h) a
+  pub bars_more : {c d e : Cursor} (n i : ℕ) → length c.bytes.now < last → i < n → PutsLeft c (bars_from n 0) d (bars_from n i)
+      → Puts d (bar_line i (bar_in rules ppms i)) e → PutsLeft c (bars_from n 0) e (bars_from n (i + 1))
+  bars_more n i room h l a = puts_more room l (bars_next n i h) a
 
   pub bars_none : (n i : ℕ) → n ≤ i → bars_from n i ≡ []
   unfolding bars_from bars_in bar_lines

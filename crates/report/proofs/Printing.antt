@@ -4,15 +4,14 @@ use native.Mathlib.Omega.{arith}
 use mathlib.Core.Path.{◌≡◌, sym, ap, ◌∙◌}
 use mathlib.Core.Bool.{Bool, true, false}
 use mathlib.Core.List.{List}
-use lib.ListN.{length}
+use lib.ListN.{length, replicate}
 use borrow.Author.Tests.{le-leb, lt-leb}
 use Rattle.model.specs.Answer.{Summary}
 use Rattle.model.specs.Job.{mark_space}
 use Rattle.model.specs.Columns.{Columns}
 use Rattle.memory.specs.Memory.{page_of, page, page_length}
 use Rattle.memory.proofs.Laws.{page_refused}
-use Rattle.put.specs.Put.{kept_length, kept_bytes}
-use Rattle.put.proofs.Keeping.{Page, none_kept, kept_whole}
+use Rattle.put.proofs.Keeping.{Page}
 use Rattle.reporttext.specs.Shown.{holds_marks}
 use Rattle.report.specs.Printed.{printed_length}
 
@@ -26,11 +25,8 @@ unfolding page
 printed_page e p = record { length = rw e p.length; bytes = rw e p.bytes }
 
 -- nothing is kept
-pub printed_none : {ok : Bool} (d : List ℕ) {ts f : List ℕ} {r : ℕ} → ok ≡ false → r ≡ kept_length (length d) 0 → f ≡ kept_bytes d r
-    → Printing ok (length d) ts f r
-printed_none d {ts} {f} {r} e k b =
-    let none : r ≡ 0 = k ∙ sym (kept_whole (length d) 0 (omega arith)) in
-    record { length = rw e none; bytes = rw e (b ∙ (ap (kept_bytes d) none ∙ (none_kept d ∙ sym (page_refused 0 (length d) ts)))) }
+pub printed_none : {ok : Bool} (n : ℕ) {ts f : List ℕ} → ok ≡ false → f ≡ replicate n 0 → Printing ok n ts f 0
+printed_none n {ts} e b = record { length = rw e; bytes = rw e (b ∙ sym (page_refused 0 n ts)) }
 
 -- what is printed after all, under another name of its text
 pub printed_all : {ok : Bool} (n : ℕ) {ts us f : List ℕ} {r : ℕ} → ok ≡ true → ts ≡ us → r ≡ printed_length ok n ts → f ≡ page_of ok n ts

@@ -1,3 +1,4 @@
+pub mod Dashed
 pub mod Figures
+pub mod Marks
 pub mod Printed
-pub mod Shaped

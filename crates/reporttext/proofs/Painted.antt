@@ -1,5 +1,6 @@
 -- What a rule says of a region is small: a mark's kind is one of 1 to 4, its ppm at most 1,000,000, and its shape at most 5.
 -- Assumes nothing.
+use Rattle.std.specs.Prelude.{Some, None}
 use Prim.Native.Nat.{ℕ, ◌≤◌, ◌+◌}
 use native.Mathlib.Omega.{arith}
 use mathlib.Core.Bool.{Bool, true, false, cond}
@@ -9,7 +10,7 @@ use Rattle.model.specs.declared.CellCoordinate.{CellCoordinate}
 use Rattle.model.specs.declared.Normalized.{Normalized}
 use Rattle.model.specs.declared.Outcome.{Outcome}
 use Rattle.model.specs.declared.Paint.{Paint}
-use Rattle.model.specs.declared.Reading.{Reading}
+use Rattle.model.specs.Options.{Reading}
 use Rattle.model.specs.declared.Rgb.{Rgb}
 use Rattle.model.specs.declared.Rule.{Rule}
 use Rattle.model.specs.declared.Shape.{Shape}
@@ -61,20 +62,20 @@ small_filled_if false imported fill = tt
 
 small_on_value : (x : Reading) (say : Float → Outcome) → ((v : Float) → SmallOutcome (say v)) → SmallOutcome (on_value x say)
 unfolding on_value
-small_on_value (Reading.Number v) say h = h v
-small_on_value Reading.Nothing say h = tt
+small_on_value (Some v) say h = h v
+small_on_value None say h = tt
 
 small_on_operand : (x : Reading) (say : Float → Outcome) → ((v : Float) → SmallOutcome (say v)) → SmallOutcome (on_operand x say)
 unfolding on_operand
-small_on_operand (Reading.Number v) say h = h v
-small_on_operand Reading.Nothing say h = tt
+small_on_operand (Some v) say h = h v
+small_on_operand None say h = tt
 
 small_on_second : (used : Bool) (y : Reading) (say : Reading → Outcome) → ((z : Reading) → SmallOutcome (say z))
     → SmallOutcome (on_second used y say)
 unfolding on_second
-small_on_second true (Reading.Number v) say h = h (Reading.Number v)
-small_on_second true Reading.Nothing say h = tt
-small_on_second false y say h = h Reading.Nothing
+small_on_second true (Some v) say h = h (Some v)
+small_on_second true None say h = tt
+small_on_second false y say h = h None
 
 -- ---- a region
 

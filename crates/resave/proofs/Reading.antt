@@ -1,59 +1,50 @@
--- From what the reader leaves to what is saved: the two lines of a refused text, and the outcome of a job that was read. Assumes nothing.
+-- From what is read to what is saved: the two lines of a refused text, and the outcome of a job that was read. Assumes nothing.
+use Rattle.std.specs.Prelude.{Ok, Err}
 use Prim.Native.Nat.{ℕ}
-use native.Mathlib.Omega.{arith}
-use mathlib.Core.Path.{◌≡◌, refl, sym, ap, ap₂, ◌∙◌}
+use mathlib.Core.Path.{◌≡◌, ap₂, ◌∙◌}
 use mathlib.Core.List.{List}
 use lib.ListN.{length}
 use Rattle.memory.specs.Memory.{page, page_length}
-use Rattle.model.specs.Answer.{refusal}
-use Rattle.model.specs.Job.{Job}
+use Rattle.model.specs.Lent.{job_lent}
 use Rattle.jobtext.specs.Read.{ReadResult, read}
-use Rattle.jobtext.specs.Laid.{laid}
 use Rattle.reporttext.specs.Report.{summary_text}
-use Rattle.reader.specs.declared.ReadJob.{ReadJob}
-use Rattle.reader.specs.Held.{Held, read_job, held_after}
-use Rattle.readlaws.proofs.Fitting.{whole_memory, never_short}
-use Rattle.readlaws.proofs.Fronts.{job_in, job_read}
+use Rattle.reader.specs.declared.Unread.{Unread}
+use Rattle.jobmemory.specs.declared.space.LimitedJob.{LimitedJob}
+use Rattle.jobmemory.specs.Unread.{unread_summary}
+use Rattle.jobmemory.specs.ReadAs.{ReadAs}
 use Rattle.savedtext.specs.Saved.{saved_length, saved_bytes, saved}
 use Rattle.savedtext.specs.Resaved.{resaved}
-use Rattle.writer.specs.declared.Saved.{Saved}
-use Rattle.writer.specs.Answers.{summary_of, length_of}
+use Rattle.writer.specs.Answers.{Saved, summary_of, length_of}
 use Rattle.resave.specs.Left.{shown, Left}
 use Rattle.resave.proofs.Showing.{outcome, shows}
 
-module _ (s : List ℕ) (room : ℕ) {job : ReadJob} (is : job ≡ read_job whole_memory (read s)) (not : job.number ≡ 0 → ⊥) where
-  refused_as : (x : ReadResult) → read s ≡ x → ((read_job whole_memory x).number ≡ 0 → ⊥)
-      → summary_text (refusal (read_job whole_memory x).number (read_job whole_memory x).line (read_job whole_memory x).start 0)
-      ≡ resaved room x
-  unfolding read_job resaved
-  refused_as (ReadResult.is j) e h = absurd (h (rw (never_short s j e)))
-  refused_as ReadResult.too_long e h = refl
-  refused_as (ReadResult.bad_line line) e h = refl
-  refused_as (ReadResult.too_many start) e h = refl
-
-  pub refused_text : summary_text (refusal job.number job.line job.start 0) ≡ resaved room (read s)
-  refused_text =
-      ap (λ (k : ReadJob). summary_text (refusal k.number k.line k.start 0)) is
-      ∙ refused_as (read s) refl (λ e. not (ap (λ (k : ReadJob). k.number) is ∙ e))
-
-module _ (s : List ℕ) {job : ReadJob} {h : Held} (is : job ≡ read_job whole_memory (read s)) (zero : job.number ≡ 0)
-    (left : h ≡ held_after (read s) whole_memory) (d : List ℕ) where
-  outcome_read : outcome job.limit (job_in job h) d ≡ resaved (length d) (read s)
+module _ (room : ℕ) where
+  pub unread_resaved : (x : ReadResult) (e : Unread) → ReadAs x (Err e) → summary_text (unread_summary e) ≡ resaved room x
   unfolding resaved
-  outcome_read =
-      let r = job_read s is zero left in
-      ap₂ (λ (n : ℕ) (k : Job). outcome n k d) r.limit r.holds ∙ ap (resaved (length d)) (sym r.says)
+  unread_resaved (ReadResult.is j) e h = absurd h
+  unread_resaved ReadResult.too_long e h = let same : e ≡ Unread.TooLong = cc in rw same
+  unread_resaved (ReadResult.bad_line line) e h = let same : e ≡ Unread.Malformed line = cc in rw same
+  unread_resaved (ReadResult.too_many start) e h = let same : e ≡ Unread.TooMany start = cc in rw same
 
-  module _ (a : Saved) {e : List ℕ} (answer : summary_of a ≡ saved job.limit (job_in job h) (length d))
-      (size : length_of a ≡ saved_length job.limit (job_in job h) (length d))
-      (bytes : e ≡ saved_bytes job.limit (job_in job h) (length d)) where
-    pub left_by_writer : Left a e
-    left_by_writer = (shows job.limit (job_in job h) d a e answer size bytes).left
+pub read_resaved : (d : List ℕ) (x : ReadResult) (r : LimitedJob) → ReadAs x (Ok r)
+    → outcome r.limit (job_lent r.job) d ≡ resaved (length d) x
+unfolding resaved
+read_resaved d (ReadResult.is j) r h = rw (h.0, h.1)
+read_resaved d ReadResult.too_long r h = cc
+read_resaved d (ReadResult.bad_line line) r h = cc
+read_resaved d (ReadResult.too_many start) r h = cc
 
-    -- what is shown of it
-    pub saved_shown : {f : List ℕ} {r : ℕ} → r ≡ page_length (length e) (shown a e) → f ≡ page (length e) (shown a e)
-        → (r ≡ page_length (length d) (resaved (length d) (read s))) × (f ≡ page (length d) (resaved (length d) (read s)))
-    saved_shown n p =
-        let all = shows job.limit (job_in job h) d a e answer size bytes in
-        let same = all.is ∙ outcome_read in
-        (n ∙ ap₂ page_length all.long same, p ∙ ap₂ page all.long same)
+module _ (s d : List ℕ) (job : LimitedJob) (is : ReadAs (read s) (Ok job)) (a : Saved) {e : List ℕ}
+    (answer : summary_of a ≡ saved job.limit (job_lent job.job) (length d))
+    (size : length_of a ≡ saved_length job.limit (job_lent job.job) (length d))
+    (bytes : e ≡ saved_bytes job.limit (job_lent job.job) (length d)) where
+  pub left_by_writer : Left a e
+  left_by_writer = (shows job.limit (job_lent job.job) d a e answer size bytes).left
+
+  -- what is shown of it
+  pub saved_shown : {f : List ℕ} {n : ℕ} → n ≡ page_length (length e) (shown a e) → f ≡ page (length e) (shown a e)
+      → (n ≡ page_length (length d) (resaved (length d) (read s))) × (f ≡ page (length d) (resaved (length d) (read s)))
+  saved_shown n p =
+      let all = shows job.limit (job_lent job.job) d a e answer size bytes in
+      let same = all.is ∙ read_resaved d (read s) job is in
+      (n ∙ ap₂ page_length all.long same, p ∙ ap₂ page all.long same)

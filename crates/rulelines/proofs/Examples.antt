@@ -1,5 +1,6 @@
 -- The section of rules computed: two rules with names of two bytes and of one, over a pool that is one byte short, exact and longer; and a
 -- malformed section. Assumes nothing.
+use Rattle.std.specs.Prelude.{None, Result, Ok, Err}
 use Prim.Native.Nat.{ℕ}
 use mathlib.Core.Path.{◌≡◌, refl}
 use mathlib.Core.Bool.{Bool, true, false}
@@ -7,12 +8,13 @@ use mathlib.Core.List.{List, [], ◌∷◌}
 use mathlib.Core.Option.{some}
 use Rattle.memory.specs.Memory.{all_or}
 use Rattle.model.specs.declared.DvOp.{DvOp}
-use Rattle.model.specs.declared.Priority.{Priority}
 use Rattle.model.specs.declared.Rgb.{Rgb}
 use Rattle.grammar.specs.Gram.{Got}
 use Rattle.grammar.specs.Gram.Got.{got, bad}
+use Rattle.fields.specs.declared.Malformed.{Malformed}
 use Rattle.jobtext.specs.Written.{Operand, Kind, RuleLine}
 use Rattle.jobtext.specs.Laid.{name_bytes, operand_bytes, kind_bytes, rule_bytes}
+use Rattle.rulelines.specs.declared.RuleSection.{RuleSection}
 use Rattle.rulelines.specs.RuleSections.{section_of, pool_after}
 
 abbrev black : Rgb
@@ -23,7 +25,7 @@ abbrev named : List ℕ → RuleLine
 named bs =
     record {
       range = record { top = 0; left = 0; bottom = 9; right = 0 };
-      priority = Priority.Missing;
+      priority = None;
       stop = false;
       imported = false;
       kind = Kind.cell_is DvOp.GreaterThan
@@ -37,8 +39,16 @@ lines = got (named (65 ∷ 66 ∷ []) ∷ named (67 ∷ []) ∷ []) 80
 abbrev over : List ℕ → List ℕ
 over pool = pool_after 1 lines pool
 
+abbrev fits : Result RuleSection Malformed → Bool
+fits (Ok t) = t.fits
+fits (Err e) = false
+
+abbrev used_to : Result RuleSection Malformed → ℕ
+used_to (Ok t) = t.used
+used_to (Err e) = 0
+
 abbrev fits_in : ℕ → Bool
-fits_in size = (section_of 1 size lines).fits
+fits_in size = fits (section_of 1 size lines)
 
 short : (over (49 ∷ 7 ∷ 7 ∷ []) ≡ 0 ∷ 0 ∷ 0 ∷ []) × (fits_in 3 ≡ false)
 unfolding all_or rule_bytes kind_bytes operand_bytes name_bytes
@@ -53,9 +63,9 @@ unfolding all_or rule_bytes kind_bytes operand_bytes name_bytes
 longer = (refl, refl)
 
 -- up to where the pool is used is told in each case
-used : ((section_of 1 3 lines).used ≡ 4) × ((section_of 1 5 lines).used ≡ 4)
+used : (used_to (section_of 1 3 lines) ≡ 4) × (used_to (section_of 1 5 lines) ≡ 4)
 unfolding rule_bytes kind_bytes operand_bytes name_bytes
 used = (refl, refl)
 
-malformed : (pool_after 1 (bad 12) (49 ∷ 7 ∷ []) ≡ 0 ∷ 0 ∷ []) × ((section_of 1 2 (bad 12)).ok ≡ false)
+malformed : (pool_after 1 (bad 12) (49 ∷ 7 ∷ []) ≡ 0 ∷ 0 ∷ []) × (section_of 1 2 (bad 12) ≡ Err (record { at = 12 }))
 malformed = (refl, refl)

@@ -1,8 +1,5 @@
-pub mod Colours
-pub mod Operands
-pub mod RuleWords
-pub mod Comparisons
-pub mod Chosen
-pub mod RuleLines
+pub mod Told
+pub mod Rooms
+pub mod Pools
 pub mod RuleSections
 pub mod Examples

@@ -2,22 +2,22 @@
 -- Assumes nothing.
 use Prim.Native.Nat.{ℕ, zero, suc, ◌+◌, ◌-◌, ◌≤◌, ◌<◌}
 use mathlib.Core.Path.{◌≡◌, refl, sym, ap, ◌∙◌}
-use mathlib.Core.Bool.{Bool, true, false, not, ◌&&◌}
+use mathlib.Core.Bool.{Bool, true, false, ◌&&◌}
+use Rattle.std.specs.Prelude.{Result, Ok, Err}
 use mathlib.Core.List.{List, [], ◌∷◌, ◌++◌}
 use native.Mathlib.Omega.{arith}
 use lib.Dec.{leb}
 use lib.ListN.{length, set, drop, replicate, length-append, length-replicate}
 use lib.Seq.{sets, sets-eq}
-use borrow.Author.Tests.{leb-true, leb-false, not-true, not-false}
+use borrow.Author.Tests.{leb-true, leb-false}
 use Rattle.memory.proofs.Laws.{all_fits, all_over}
 use Rattle.model.specs.declared.Rule.{Rule}
 use Rattle.grammar.specs.Gram.{Got}
 use Rattle.grammar.specs.Gram.Got.{got, bad}
 use Rattle.grammar.specs.Parts.{then, times_p}
 use Rattle.grammar.proofs.Times.{times_next}
-use Rattle.fields.specs.Room.{Room}
-use Rattle.fields.specs.Room.{roomy}
-use Rattle.fields.proofs.Laws.{clash}
+use Rattle.fields.specs.Room.{Room, roomy}
+use Rattle.fields.specs.declared.Malformed.{Malformed}
 use Rattle.fields.proofs.Room.{room_past, roomy_room}
 use Rattle.grammar.proofs.Parts.{times_exact, times_length}
 use Rattle.jobtext.specs.Written.{RuleLine}
@@ -25,12 +25,13 @@ use Rattle.jobtext.specs.Rules.{rule_line}
 use Rattle.jobtext.specs.Laid.{kind_bytes, rule_at, rule_bytes, rules_from, blank_rule, records_from}
 use Rattle.jobtext.proofs.Rules.{rule_exact}
 use Rattle.jobtext.proofs.Lengths.{rule_length}
-use Rattle.rulelines.specs.declared.ReadRule.{ReadRule}
+use Rattle.rulelines.specs.declared.Laid.{Laid}
 use Rattle.rulelines.specs.declared.RuleSection.{RuleSection}
 use Rattle.rulelines.specs.Lines.{Stored, Pooled}
-use Rattle.rulelines.specs.RuleLines.{rule_bytes_of, IsRule}
-use Rattle.rulelines.specs.RuleSections.{no_section, rules_left, answer_of, rules_at, section_of, pool_after}
-use Rattle.rulelines.proofs.Comparisons.{stored_both}
+use Rattle.rulelines.specs.RuleLines.{rule_bytes_of, rule_of}
+use Rattle.rulelines.specs.RuleSections.{rules_left, answer_of, rules_at, section_of, pool_after}
+use Rattle.rulelines.proofs.Told.{laid_bad}
+use Rattle.rulelines.proofs.Pools.{stored_both}
 
 rule_size : (l : RuleLine) → rule_line.Ok l → length (rule_bytes_of l) ≤ length (rule_line.text l)
 unfolding rule_bytes_of
@@ -71,18 +72,17 @@ texts_next u l pool mid after (bad p) x y = tt
 module _ {s : List ℕ} {at n used : ℕ} {records₀ : List Rule} {pool₀ : List ℕ} {records : List Rule} {pool : List ℕ} {q u i : ℕ}
     (w : Rest s at n used records₀ pool₀ records pool q u i) where
   -- the answer, and the names
-  abbrev Says : ℕ → RuleSection → List ℕ → Type 0
+  abbrev Says : ℕ → Result RuleSection Malformed → List ℕ → Type 0
   Says size r after =
       (r ≡ answer_of (rules_left 0 used (times_p n rule_line.parse s at) records₀) size n)
       × Pooled rule_bytes (times_p n rule_line.parse s at) used pool₀ after
 
-  pub rest_done : n ≤ i → Says (length pool₀) (record {
-    ok = true;
+  pub rest_done : n ≤ i → Says (length pool₀) (Ok (record {
     fits = leb u (length pool);
     next = q;
     used = u;
     rules = record { records = records; number = n };
-  }) pool
+  })) pool
   unfolding times_p rules_from rule_bytes
   rest_done h =
       let z : n - i ≡ 0 = omega arith in
@@ -91,48 +91,43 @@ module _ {s : List ℕ} {at n used : ℕ} {records₀ : List Rule} {pool₀ : Li
         w.texts pool (rw z (λ _. refl)),
       )
 
-  pub rest_stopped : (c : ReadRule) {r : RuleSection} (size : ℕ) (after : List ℕ) → i < n → not c.ok ≡ true
-      → IsRule (rule_line.parse s q) u c → r ≡ no_section c.next → Says size r after
-  rest_stopped c {r} size after h x k y =
-      let b : rule_line.parse s q ≡ bad c.next = none (rule_line.parse s q) k in
-      let t : times_p (n - i) rule_line.parse s q ≡ bad c.next = times_next n i rule_line.parse s q h ∙ rw b in
-      (y ∙ rw (← w.same, t), w.texts after (rw t tt))
-    where
-      none : (g : Got RuleLine) → IsRule g u c → g ≡ bad c.next
-      none (got a p) k = let z : false ≡ true = sym (ap (λ (b : ReadRule). not b.ok) k) ∙ x in let w : ◌≡◌ {A = ℕ} 0 1 = cc in absurd
-          (omega arith)
-      none (bad p) k = rw k.1
+  pub rest_stopped : {e : Malformed} (size : ℕ) (after : List ℕ) → i < n → Err e ≡ rule_of (rule_line.parse s q) u → Says size (Err e) after
+  rest_stopped {e} size after h x =
+      let t : times_p (n - i) rule_line.parse s q ≡ bad e.at =
+      times_next n i rule_line.parse s q h ∙ rw (laid_bad rule_at rule_bytes_of (rule_line.parse s q) u x) in
+      (rw (← w.same, t), w.texts after (rw t tt))
 
-  pub rest_next : (c : ReadRule) (after : List ℕ) → i < n → not c.ok ≡ false → IsRule (rule_line.parse s q) u c
+  pub rest_next : {c : Laid Rule} (after : List ℕ) → i < n → Ok c ≡ rule_of (rule_line.parse s q) u
       → Pooled rule_bytes_of (rule_line.parse s q) u pool after → length after ≡ length pool
-      → Rest s at n used records₀ pool₀ (set records i c.rule) after c.next c.used (i + 1)
-  rest_next c after h x k y l = go (rule_line.parse s q) refl k y
+      → Rest s at n used records₀ pool₀ (set records i c.value) after c.next c.used (i + 1)
+  rest_next {c} after h k y l = go (rule_line.parse s q) refl k y
     where
-      go : (g : Got RuleLine) → rule_line.parse s q ≡ g → IsRule g u c → Pooled rule_bytes_of g u pool after
-          → Rest s at n used records₀ pool₀ (set records i c.rule) after c.next c.used (i + 1)
+      go : (g : Got RuleLine) → rule_line.parse s q ≡ g → Ok c ≡ rule_of g u → Pooled rule_bytes_of g u pool after
+          → Rest s at n used records₀ pool₀ (set records i c.value) after c.next c.used (i + 1)
       go (got a p) f k y =
           let more : Got (List RuleLine) = times_p (n - (i + 1)) rule_line.parse s p in
           let t : times_p (n - i) rule_line.parse s q ≡ then more (λ l e. got (a ∷ l) e) =
           times_next n i rule_line.parse s q h
           ∙ ap (λ (g : Got RuleLine). then g (λ b k. then (times_p (n - (i + 1)) rule_line.parse s k) (λ l e. got (b ∷ l) e))) f in
-          rw k
+          let d : c ≡ record { value = rule_at u a; next = p; used = u + length (rule_bytes_of a) } = cc in
+          rw d
           (record {
             same = sym (left_next i u a records more) ∙ (sym (ap (λ (g : Got (List RuleLine)). rules_left i u g records) t) ∙ w.same);
             texts = λ e m. w.texts e (rw t (texts_next u a pool after e more y m));
             room = room_past rule_exact a p (length (rule_bytes_of a)) w.room f (rule_size a (rule_exact.ok s q a p f));
             deep = l ∙ w.deep;
           })
-      go (bad p) f k y = let z : true ≡ false = sym (ap not k.0) ∙ x in let w : ◌≡◌ {A = ℕ} 0 1 = cc in absurd (omega arith)
+      go (bad p) f k y = absurd (cc)
 
 -- ---- the whole section
 
 and_first : (a b : Bool) → (a && b) ≡ true → a ≡ true
 and_first true b e = refl
-and_first false b e = let w : ◌≡◌ {A = ℕ} 0 1 = cc in absurd (omega arith)
+and_first false b e = cc
 
 and_second : (a b : Bool) → (a && b) ≡ true → b ≡ true
 and_second true b e = e
-and_second false b e = let w : ◌≡◌ {A = ℕ} 0 1 = cc in absurd (omega arith)
+and_second false b e = cc
 
 length_rules : (u : ℕ) (rs : List RuleLine) → length (rules_from u rs) ≡ length rs
 unfolding rules_from
@@ -154,16 +149,16 @@ stored_records u rs h =
     sets-eq (rules_from u rs) (replicate 64 blank_rule) 0 e ∙ rw (z, drop_blank 64 (length rs))
 
 module _ (s : List ℕ) (at n used : ℕ) (pool : List ℕ) where
-  abbrev Section : RuleSection → List ℕ → Type 0
+  abbrev Section : Result RuleSection Malformed → List ℕ → Type 0
   Section r after =
       (r ≡ section_of used (length pool) (rules_at s at n used)) × (after ≡ pool_after used (rules_at s at n used) pool)
 
-  pub no_room : {b : Bool} {r : RuleSection} {after : List ℕ} → b ≡ (roomy s at used && leb n 64) → b ≡ false
-      → after ≡ replicate (length pool) 0 → r ≡ no_section at → Section r after
+  pub no_room : {b : Bool} {after : List ℕ} → b ≡ (roomy s at used && leb n 64) → b ≡ false → after ≡ replicate (length pool) 0
+      → Section (Err (record { at = at })) after
   unfolding rules_at
-  no_room {b} x y i e = rw (sym x ∙ y) (e, i)
+  no_room {b} x y i = rw (sym x ∙ y) (refl, i)
 
-  module _ {b : Bool} (x : b ≡ (roomy s at used && leb n 64)) (y : b ≡ true) {r : RuleSection}
+  module _ {b : Bool} (x : b ≡ (roomy s at used && leb n 64)) (y : b ≡ true) {r : Result RuleSection Malformed}
       (e : r ≡ answer_of (rules_left 0 used (times_p n rule_line.parse s at) (replicate 64 blank_rule)) (length pool) n) where
     small : n ≤ 64
     small = leb-true n 64 (and_second (roomy s at used) (leb n 64) (sym x ∙ y))
@@ -184,26 +179,36 @@ module _ (s : List ℕ) (at n used : ℕ) (pool : List ℕ) where
         go (bad p) h = refl
 
     -- the names are within the pool
-    pub lines_read : (after : List ℕ) → Pooled rule_bytes lines used pool after → not r.fits ≡ false → Section r after
+    pub lines_read : {t : RuleSection} (after : List ℕ) → r ≡ Ok t → t.fits ≡ true → Pooled rule_bytes lines used pool after → Section r after
     unfolding rules_at
-    lines_read after p z = rw (sym x ∙ y) (answered, go lines answered p)
+    lines_read {t} after d z p = rw (sym x ∙ y) (answered, go lines (sym d ∙ answered) p)
       where
-        go : (g : Got (List RuleLine)) → r ≡ section_of used (length pool) g → Pooled rule_bytes g used pool after
+        go : (g : Got (List RuleLine)) → Ok t ≡ section_of used (length pool) g → Pooled rule_bytes g used pool after
             → after ≡ pool_after used g pool
         go (got rs q) k p =
-            let f = leb-true _ _ (sym (ap (λ (t : RuleSection). t.fits) k) ∙ not-false r.fits z) in
-            p f ∙ sym (all_fits 0 pool used (rule_bytes rs) f)
-        go (bad q) k p = clash true false refl refl (sym (not-false r.fits z) ∙ ap (λ (t : RuleSection). t.fits) k)
+            let f : leb (used + length (rule_bytes rs)) (length pool) ≡ true = cc in
+            let l = leb-true _ _ f in
+            p l ∙ sym (all_fits 0 pool used (rule_bytes rs) l)
+        go (bad q) k p = absurd (cc)
 
-    -- they are not, or a line is malformed
-    pub lines_cleared : {after : List ℕ} → after ≡ replicate (length pool) 0 → not r.fits ≡ true → Section r after
+    -- they are not
+    pub lines_over : {t : RuleSection} {after : List ℕ} → r ≡ Ok t → t.fits ≡ false → after ≡ replicate (length pool) 0 → Section r after
     unfolding rules_at
-    lines_cleared {after} i z = rw (sym x ∙ y) (answered, i ∙ go lines answered)
+    lines_over {t} {after} d z i = rw (sym x ∙ y) (answered, i ∙ go lines (sym d ∙ answered))
       where
-        go : (g : Got (List RuleLine)) → r ≡ section_of used (length pool) g → replicate (length pool) 0 ≡ pool_after used g pool
+        go : (g : Got (List RuleLine)) → Ok t ≡ section_of used (length pool) g → replicate (length pool) 0 ≡ pool_after used g pool
         go (got rs q) k =
-            sym (all_over 0 pool used (rule_bytes rs) true
-            (leb-false _ _ (sym (ap (λ (t : RuleSection). t.fits) k) ∙ not-true r.fits z)))
+            let f : leb (used + length (rule_bytes rs)) (length pool) ≡ false = cc in
+            sym (all_over 0 pool used (rule_bytes rs) true (leb-false _ _ f))
+        go (bad p) k = absurd (cc)
+
+    -- a line is malformed
+    pub lines_stopped : {m : Malformed} {after : List ℕ} → r ≡ Err m → after ≡ replicate (length pool) 0 → Section r after
+    unfolding rules_at
+    lines_stopped {m} {after} d i = rw (sym x ∙ y) (answered, i ∙ go lines (sym d ∙ answered))
+      where
+        go : (g : Got (List RuleLine)) → Err m ≡ section_of used (length pool) g → replicate (length pool) 0 ≡ pool_after used g pool
+        go (got rs q) k = absurd (cc)
         go (bad p) k = refl
 
 -- the bounds hold where the test does

@@ -1,22 +1,24 @@
 -- What the reader of a rule line answers for each result of the grammar. Assumes nothing.
-use Rattle.std.specs.Prelude.{ℕ, ◌+◌, Bool, true, false, List, ◌≡◌, length}
-use Rattle.model.specs.declared.Priority.{Priority}
+use Rattle.std.specs.Prelude.{ℕ, Bool, List, Result}
+use Rattle.model.specs.Options.{Priority}
 use Rattle.model.specs.declared.Range.{Range}
+use Rattle.model.specs.declared.Rule.{Rule}
 use Rattle.grammar.specs.Gram.{Got, Gram}
-use Rattle.grammar.specs.Gram.Got.{got, bad}
+use Rattle.grammar.specs.Gram.Got.{got}
 use Rattle.grammar.specs.Parts.{then, both}
+use Rattle.fields.specs.declared.Malformed.{Malformed}
 use Rattle.jobtext.specs.Written.{Kind, RuleLine}
 use Rattle.jobtext.specs.Fields.{flag, priority}
 use Rattle.jobtext.specs.Rules.{kind}
 use Rattle.jobtext.specs.Laid.{kind_bytes, rule_at}
-use Rattle.rulelines.specs.declared.ReadRule.{ReadRule}
+use Rattle.rulelines.specs.declared.Laid.{Laid}
+use Rattle.rulelines.specs.Lines.{laid_of}
 
 unfoldable pub rule_bytes_of : RuleLine → List ℕ
 rule_bytes_of l = kind_bytes l.kind
 
-abbrev pub IsRule : Got RuleLine → ℕ → ReadRule → Type 0
-IsRule (got l q) u r = r ≡ record { ok = true; rule = rule_at u l; next = q; used = u + length (rule_bytes_of l) }
-IsRule (bad p) u r = (r.ok ≡ false) × (r.next ≡ p)
+abbrev pub rule_of : Got RuleLine → ℕ → Result (Laid Rule) Malformed
+rule_of g u = laid_of rule_at rule_bytes_of g u
 
 -- what stands behind the range
 abbrev pub rest_t : Type 0

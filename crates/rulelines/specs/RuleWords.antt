@@ -1,18 +1,25 @@
--- What the readers of rule words and of a rule line answer for each result of the grammar. Assumes nothing.
-use Rattle.std.specs.Prelude.{ℕ, ◌+◌, Bool, true, false, ◌≡◌, length}
+-- What the readers of rule words answer for each result of the grammar. Assumes nothing.
+use Rattle.std.specs.Prelude.{ℕ, Bool, List, Result}
 use Rattle.std.proofs.Common.{inl, inr}
+use Rattle.model.specs.declared.CfRule.{CfRule}
 use Rattle.model.specs.declared.Rgb.{Rgb}
-use Rattle.grammar.specs.Gram.{Got}
-use Rattle.grammar.specs.Gram.Got.{got, bad}
-use Rattle.grammar.specs.Parts.{then}
+use Rattle.grammar.specs.Gram.{Got, Gram}
+use Rattle.grammar.specs.Gram.Got.{got}
+use Rattle.grammar.specs.Parts.{then, bytes, both, either}
+use Rattle.fields.specs.declared.Malformed.{Malformed}
+use Rattle.jobtext.specs.Fields.{colour}
 use Rattle.jobtext.specs.Written.{Kind}
 use Rattle.jobtext.specs.Rules.{cell_is_t, rank_t, expr_t, to_kind}
 use Rattle.jobtext.specs.Laid.{kind_bytes, kind_at}
-use Rattle.rulelines.specs.declared.kinds.ReadKind.{ReadKind}
+use Rattle.rulelines.specs.declared.Laid.{Laid}
+use Rattle.rulelines.specs.Lines.{laid_of}
 
-abbrev pub IsKind : Got Kind → ℕ → ReadKind → Type 0
-IsKind (got k q) u r = r ≡ record { ok = true; kind = kind_at u k; next = q; used = u + length (kind_bytes k) }
-IsKind (bad p) u r = (r.ok ≡ false) × (r.next ≡ p)
+abbrev pub kind_of : Got Kind → ℕ → Result (Laid CfRule) Malformed
+kind_of g u = laid_of kind_at kind_bytes g u
+
+-- one of two words, then a colour
+unfoldable pub flagged : List ℕ → List ℕ → Gram (Bool × Rgb)
+flagged first second = both (either first second) (colour (bytes "\n"))
 
 -- the parameters that were read behind a word, as the rule of that word
 abbrev pub made : {X : Type 0} → (X → Kind) → Got X → Got Kind

@@ -1,155 +1,123 @@
-// What is read behind a rule word, and the words that have no operand.
-ghost use Rattle.std.specs.Prelude.{false, ◌≡◌};
+// The rule words that have no operands: they leave the pool as it is.
+ghost use Rattle.std.specs.Prelude.{◌≡◌};
 ghost use Rattle.jobtext.specs.Rules.{scale2, scale3, bar, rank, mean, same};
-ghost use Rattle.rulelines.specs.RuleWords.{IsKind, made_scale2, made_scale3, made_bar, made_rank, made_mean, made_same};
+ghost use Rattle.rulelines.specs.Lines.{placed_of};
+ghost use Rattle.rulelines.specs.RuleWords.{kind_of, flagged, made_scale2, made_scale3, made_bar, made_rank, made_mean, made_same};
 
 use crate::parts::read_colour;
+use crate::{Laid, Placed};
+use fields::Malformed;
 use model::{CfRule, Rgb};
 
-#[derive(Clone, Copy)]
-pub(crate) struct ReadKind {
-    pub(crate) ok: bool,
-    pub(crate) kind: CfRule,
-    pub(crate) next: usize,
-    pub(crate) used: usize,
-}
-
-pub(crate) fn no_kind(next: usize) -> ReadKind
-    ensures { (result.ok ≡ false) × (result.next ≡ next) }
+#[tactic(auto, using(crate::proofs::Told::reads), unfolding(jobtext::specs::Rules::scale2, grammar::specs::Parts::bytes, jobtext::specs::Laid::kind_at, jobtext::specs::Laid::kind_bytes))]
+pub(crate) fn read_scale2(s: &[u8], at: usize, used: usize) -> Result<Laid<CfRule>, Malformed>
+    ensures { result ≡ kind_of (made_scale2 (scale2.parse s.now at)) used }
 {
-    let color = Rgb {
-        red: 0,
-        green: 0,
-        blue: 0,
+    let min = read_colour(s, at, b" ")?;
+    let max = read_colour(s, min.next, b" - -\n")?;
+    let value = CfRule::ColorScale2 {
+        min: min.value,
+        max: max.value,
     };
-    ReadKind {
-        ok: false,
-        kind: CfRule::DataBar { color },
-        next,
-        used: 0,
-    }
+    Ok(Laid {
+        value,
+        next: max.next,
+        used,
+    })
 }
 
-pub(crate) fn read_scale2(s: &[u8], at: usize, used: usize) -> ReadKind
-    ensures { IsKind (made_scale2 (scale2.parse s.now at)) used result }
+#[tactic(auto, using(crate::proofs::Told::reads), unfolding(jobtext::specs::Rules::scale3, grammar::specs::Parts::bytes, jobtext::specs::Laid::kind_at, jobtext::specs::Laid::kind_bytes))]
+pub(crate) fn read_scale3(s: &[u8], at: usize, used: usize) -> Result<Laid<CfRule>, Malformed>
+    ensures { result ≡ kind_of (made_scale3 (scale3.parse s.now at)) used }
 {
-    let a = read_colour(s, at, b" ");
-    if !a.ok {
-        return no_kind(a.next);
-    }
-    let b = read_colour(s, a.next, b" - -\n");
-    let min = a.rgb;
-    let max = b.rgb;
-    ReadKind {
-        ok: b.ok,
-        kind: CfRule::ColorScale2 { min, max },
-        next: b.next,
+    let min = read_colour(s, at, b" ")?;
+    let mid = read_colour(s, min.next, b" ")?;
+    let max = read_colour(s, mid.next, b" -\n")?;
+    let value = CfRule::ColorScale3 {
+        min: min.value,
+        mid: mid.value,
+        max: max.value,
+    };
+    Ok(Laid {
+        value,
+        next: max.next,
         used,
-    }
+    })
 }
 
-pub(crate) fn read_scale3(s: &[u8], at: usize, used: usize) -> ReadKind
-    ensures { IsKind (made_scale3 (scale3.parse s.now at)) used result }
+#[tactic(auto, using(crate::proofs::Told::reads), unfolding(jobtext::specs::Rules::bar, grammar::specs::Parts::bytes, jobtext::specs::Laid::kind_at, jobtext::specs::Laid::kind_bytes))]
+pub(crate) fn read_bar(s: &[u8], at: usize, used: usize) -> Result<Laid<CfRule>, Malformed>
+    ensures { result ≡ kind_of (made_bar (bar.parse s.now at)) used }
 {
-    let a = read_colour(s, at, b" ");
-    if !a.ok {
-        return no_kind(a.next);
-    }
-    let b = read_colour(s, a.next, b" ");
-    if !b.ok {
-        return no_kind(b.next);
-    }
-    let c = read_colour(s, b.next, b" -\n");
-    let min = a.rgb;
-    let mid = b.rgb;
-    let max = c.rgb;
-    ReadKind {
-        ok: c.ok,
-        kind: CfRule::ColorScale3 { min, mid, max },
-        next: c.next,
+    let color = read_colour(s, at, b" - - -\n")?;
+    let value = CfRule::DataBar { color: color.value };
+    Ok(Laid {
+        value,
+        next: color.next,
         used,
-    }
+    })
 }
 
-pub(crate) fn read_bar(s: &[u8], at: usize, used: usize) -> ReadKind
-    ensures { IsKind (made_bar (bar.parse s.now at)) used result }
+#[tactic(auto, using(crate::proofs::Told::reads), unfolding(jobtext::specs::Rules::rank, grammar::specs::Parts::bytes, jobtext::specs::Laid::kind_at, jobtext::specs::Laid::kind_bytes))]
+pub(crate) fn read_rank(s: &[u8], at: usize, used: usize) -> Result<Laid<CfRule>, Malformed>
+    ensures { result ≡ kind_of (made_rank (rank.parse s.now at)) used }
 {
-    let a = read_colour(s, at, b" - - -\n");
-    let color = a.rgb;
-    ReadKind {
-        ok: a.ok,
-        kind: CfRule::DataBar { color },
-        next: a.next,
+    let rank = fields::decimal(s, at, 4294967295, b' ')?;
+    let bottom = fields::either_word(s, rank.next, b"top ", b"bottom ")?;
+    let percent = fields::either_word(s, bottom.next, b"count ", b"percent ")?;
+    let fill = read_colour(s, percent.next, b"\n")?;
+    let value = CfRule::TopBottom {
+        rank: rank.value as u32,
+        bottom: bottom.second,
+        percent: percent.second,
+        fill: fill.value,
+    };
+    Ok(Laid {
+        value,
+        next: fill.next,
         used,
-    }
+    })
 }
 
-pub(crate) fn read_rank(s: &[u8], at: usize, used: usize) -> ReadKind
-    ensures { IsKind (made_rank (rank.parse s.now at)) used result }
+// Which of two words, and the colour behind it.
+#[tactic(auto, using(crate::proofs::Told::reads), unfolding(crate::specs::RuleWords::flagged, grammar::specs::Parts::bytes))]
+fn read_flagged(
+    s: &[u8],
+    at: usize,
+    first: &[u8],
+    second: &[u8],
+) -> Result<Placed<(bool, Rgb)>, Malformed>
+    ensures { result ≡ placed_of ((flagged first.now second.now).parse s.now at) }
 {
-    let n = fields::decimal(s, at, 4294967295, b' ');
-    if !n.ok {
-        return no_kind(n.next);
-    }
-    let b = fields::either_word(s, n.next, b"top ", b"bottom ");
-    if !b.ok {
-        return no_kind(b.next);
-    }
-    let p = fields::either_word(s, b.next, b"count ", b"percent ");
-    if !p.ok {
-        return no_kind(p.next);
-    }
-    let a = read_colour(s, p.next, b"\n");
-    let fill = a.rgb;
-    ReadKind {
-        ok: a.ok,
-        kind: CfRule::TopBottom {
-            rank: n.value as u32,
-            bottom: b.value == 1,
-            percent: p.value == 1,
-            fill,
-        },
-        next: a.next,
-        used,
-    }
+    let word = fields::either_word(s, at, first, second)?;
+    let fill = read_colour(s, word.next, b"\n")?;
+    Ok(Placed {
+        value: (word.second, fill.value),
+        next: fill.next,
+    })
 }
 
-pub(crate) fn read_mean(s: &[u8], at: usize, used: usize) -> ReadKind
-    ensures { IsKind (made_mean (mean.parse s.now at)) used result }
+#[tactic(auto, using(crate::proofs::Told::reads), unfolding(jobtext::specs::Rules::mean, crate::specs::RuleWords::flagged, grammar::specs::Parts::bytes, jobtext::specs::Laid::kind_at, jobtext::specs::Laid::kind_bytes))]
+pub(crate) fn read_mean(s: &[u8], at: usize, used: usize) -> Result<Laid<CfRule>, Malformed>
+    ensures { result ≡ kind_of (made_mean (mean.parse s.now at)) used }
 {
-    let b = fields::either_word(s, at, b"above - - ", b"below - - ");
-    if !b.ok {
-        return no_kind(b.next);
-    }
-    let a = read_colour(s, b.next, b"\n");
-    let fill = a.rgb;
-    ReadKind {
-        ok: a.ok,
-        kind: CfRule::AboveAverage {
-            below: b.value == 1,
-            fill,
-        },
-        next: a.next,
+    let read = read_flagged(s, at, b"above - - ", b"below - - ")?;
+    let (below, fill) = read.value;
+    Ok(Laid {
+        value: CfRule::AboveAverage { below, fill },
+        next: read.next,
         used,
-    }
+    })
 }
 
-pub(crate) fn read_same(s: &[u8], at: usize, used: usize) -> ReadKind
-    ensures { IsKind (made_same (same.parse s.now at)) used result }
+pub(crate) fn read_same(s: &[u8], at: usize, used: usize) -> Result<Laid<CfRule>, Malformed>
+    ensures { result ≡ kind_of (made_same (same.parse s.now at)) used }
 {
-    let b = fields::either_word(s, at, b"duplicate - - ", b"unique - - ");
-    if !b.ok {
-        return no_kind(b.next);
-    }
-    let a = read_colour(s, b.next, b"\n");
-    let fill = a.rgb;
-    ReadKind {
-        ok: a.ok,
-        kind: CfRule::DuplicateValues {
-            unique: b.value == 1,
-            fill,
-        },
-        next: a.next,
+    let read = read_flagged(s, at, b"duplicate - - ", b"unique - - ")?;
+    let (unique, fill) = read.value;
+    Ok(Laid {
+        value: CfRule::DuplicateValues { unique, fill },
+        next: read.next,
         used,
-    }
+    })
 }

@@ -7,23 +7,31 @@ mod operand;
 mod parts;
 mod words;
 
-ghost use Rattle.std.specs.Prelude.{◌≤◌, false, ◌&&◌, ◌≡◌, leb, length, replicate};
+ghost use Rattle.std.specs.Prelude.{◌≤◌, ◌&&◌, ◌≡◌, leb, length, replicate};
 ghost use Rattle.grammar.specs.Parts.{times_p};
 ghost use Rattle.fields.specs.Room.{Room, roomy};
 ghost use Rattle.jobtext.specs.Rules.{rule_line};
 ghost use Rattle.jobtext.specs.Laid.{blank_rule, rule_bytes};
-ghost use Rattle.rulelines.specs.RuleLines.{IsRule, rest, behind_range, rule_bytes_of};
-ghost use Rattle.rulelines.specs.RuleSections.{no_section, rules_left, answer_of, rules_at, section_of, pool_after};
+ghost use Rattle.rulelines.specs.RuleLines.{rule_of, rest, behind_range, rule_bytes_of};
+ghost use Rattle.rulelines.specs.RuleSections.{rules_left, answer_of, rules_at, section_of, pool_after};
 ghost use Rattle.rulelines.specs.Lines.{Pooled};
 
 use crate::parts::read_priority;
 use crate::words::read_kind;
-use model::{CfRule, Priority, Range, Rgb, Rule, Rules};
+use fields::Malformed;
+use model::{CfRule, Range, Rgb, Rule, Rules};
 
+// A value that was read, and the place after it.
 #[derive(Clone, Copy)]
-struct ReadRule {
-    ok: bool,
-    rule: Rule,
+struct Placed<T> {
+    value: T,
+    next: usize,
+}
+
+// A value whose names are in the pool, the place after it, and up to where the pool is then used.
+#[derive(Clone, Copy)]
+struct Laid<T> {
+    value: T,
     next: usize,
     used: usize,
 }
@@ -44,134 +52,113 @@ fn blank_rule() -> Rule
     };
     Rule {
         range,
-        priority: Priority::Missing,
+        priority: None,
         stop: false,
         imported: false,
         kind: CfRule::DataBar { color },
     }
 }
 
-fn no_rule(next: usize) -> ReadRule
-    ensures { (result.ok ≡ false) × (result.next ≡ next) }
+// No rules.
+pub fn blank_rules() -> Rules
+    ensures { result ≡ record { records = replicate 64 blank_rule; number = 0 } }
 {
-    let rule = blank_rule();
-    ReadRule {
-        ok: false,
-        rule,
-        next,
-        used: 0,
+    let blank = blank_rule();
+    Rules {
+        records: [blank; 64],
+        number: 0,
     }
 }
 
 // What stands behind the range: priority, flags and rule word.
-fn read_behind(s: &[u8], at: usize, range: Range, pool: &mut [u8], used: usize) -> ReadRule
+#[tactic(auto, using(crate::proofs::Told::reads), unfolding(crate::specs::RuleLines::rest, crate::specs::RuleLines::rule_bytes_of, jobtext::specs::Laid::rule_at, grammar::specs::Parts::bytes))]
+fn read_behind(
+    s: &[u8],
+    at: usize,
+    range: Range,
+    pool: &mut [u8],
+    used: usize,
+) -> Result<Laid<Rule>, Malformed>
     requires { Room s.now at used }
-    ensures rule { IsRule (behind_range range (rest.parse s.now at)) used result }
+    ensures rule { result ≡ rule_of (behind_range range (rest.parse s.now at)) used }
     ensures pooled { Pooled rule_bytes_of (behind_range range (rest.parse s.now at)) used pool.old pool.new }
 {
-    let p = read_priority(s, at);
-    if !p.ok {
-        return no_rule(p.next);
-    }
-    let a = fields::either_word(s, p.next, b"0 ", b"1 ");
-    if !a.ok {
-        return no_rule(a.next);
-    }
-    let b = fields::either_word(s, a.next, b"0 ", b"1 ");
-    if !b.ok {
-        return no_rule(b.next);
-    }
-    let k = read_kind(s, b.next, pool, used);
-    let priority = p.priority;
-    let kind = k.kind;
-    let rule = Rule {
+    let priority = read_priority(s, at)?;
+    let stop = fields::either_word(s, priority.next, b"0 ", b"1 ")?;
+    let imported = fields::either_word(s, stop.next, b"0 ", b"1 ")?;
+    let kind = read_kind(s, imported.next, pool, used)?;
+    let value = Rule {
         range,
-        priority,
-        stop: a.value == 1,
-        imported: b.value == 1,
-        kind,
+        priority: priority.value,
+        stop: stop.second,
+        imported: imported.second,
+        kind: kind.value,
     };
-    ReadRule {
-        ok: k.ok,
-        rule,
-        next: k.next,
-        used: k.used,
-    }
+    Ok(Laid {
+        value,
+        next: kind.next,
+        used: kind.used,
+    })
 }
 
-fn read_rule(s: &[u8], at: usize, pool: &mut [u8], used: usize) -> ReadRule
+#[tactic(auto, using(crate::proofs::Told::reads), unfolding(jobtext::specs::Rules::rule_line, crate::specs::RuleLines::rest))]
+fn read_rule(s: &[u8], at: usize, pool: &mut [u8], used: usize) -> Result<Laid<Rule>, Malformed>
     requires { Room s.now at used }
-    ensures rule { IsRule (rule_line.parse s.now at) used result }
+    ensures rule { result ≡ rule_of (rule_line.parse s.now at) used }
     ensures pooled { Pooled rule_bytes_of (rule_line.parse s.now at) used pool.old pool.new }
 {
-    let a = fields::decimal(s, at, 4294967295, b' ');
-    if !a.ok {
-        return no_rule(a.next);
-    }
-    let b = fields::decimal(s, a.next, 65535, b' ');
-    if !b.ok {
-        return no_rule(b.next);
-    }
-    let c = fields::decimal(s, b.next, 4294967295, b' ');
-    if !c.ok {
-        return no_rule(c.next);
-    }
-    let d = fields::decimal(s, c.next, 65535, b' ');
-    if !d.ok {
-        return no_rule(d.next);
-    }
+    let top = fields::decimal(s, at, 4294967295, b' ')?;
+    let left = fields::decimal(s, top.next, 65535, b' ')?;
+    let bottom = fields::decimal(s, left.next, 4294967295, b' ')?;
+    let right = fields::decimal(s, bottom.next, 65535, b' ')?;
     let range = Range {
-        top: a.value as u32,
-        left: b.value as u16,
-        bottom: c.value as u32,
-        right: d.value as u16,
+        top: top.value as u32,
+        left: left.value as u16,
+        bottom: bottom.value as u32,
+        right: right.value as u16,
     };
-    read_behind(s, d.next, range, pool, used)
+    read_behind(s, right.next, range, pool, used)
 }
 
 // ---- the section of rules
 
-// The records, the place after the lines, up to where the pool is then used, and whether it is so long; or the place at which the lines
-// cannot be read on.
+// The rules, the place after their lines, up to where the pool is then used, and whether it is so long.
 #[derive(Clone, Copy)]
 pub struct RuleSection {
-    pub ok: bool,
     pub fits: bool,
     pub next: usize,
     pub used: usize,
     pub rules: Rules,
 }
 
-fn read_rule_lines(s: &[u8], at: usize, number: usize, pool: &mut [u8], used: usize) -> RuleSection
+fn read_rule_lines(
+    s: &[u8],
+    at: usize,
+    number: usize,
+    pool: &mut [u8],
+    used: usize,
+) -> Result<RuleSection, Malformed>
     requires { Room s.now at used × (number ≤ 64) }
     ensures value { result ≡ answer_of (rules_left 0 used (times_p number rule_line.parse s.now at) (replicate 64 blank_rule))
         (length pool.old) number }
     ensures pooled { Pooled rule_bytes (times_p number rule_line.parse s.now at) used pool.old pool.new }
 {
-    let blank = blank_rule();
-    let mut records = [blank; 64];
-    let mut q = at;
-    let mut u = used;
-    let mut i = 0;
-    while i < number {
-        let r = read_rule(s, q, pool, u);
-        if !r.ok {
-            return no_rules(r.next);
-        }
-        let rule = r.rule;
-        records[i] = rule;
-        q = r.next;
-        u = r.used;
-        i += 1;
+    let mut rules = blank_rules();
+    let mut next = at;
+    let mut used = used;
+    for i in 0..number {
+        let rule = read_rule(s, next, pool, used)?;
+        rules.records[i] = rule.value;
+        next = rule.next;
+        used = rule.used;
     }
-    let rules = Rules { records, number };
-    RuleSection {
-        ok: true,
-        fits: u <= pool.len(),
-        next: q,
-        used: u,
+    rules.number = number;
+    Ok(RuleSection {
+        fits: used <= pool.len(),
+        next,
+        used,
         rules,
-    }
+    })
 }
 
 fn has_room(s: &[u8], at: usize, number: usize, used: usize) -> bool
@@ -180,35 +167,33 @@ fn has_room(s: &[u8], at: usize, number: usize, used: usize) -> bool
     fields::has_room(s, at, used) && number <= 64
 }
 
-pub fn no_rules(next: usize) -> RuleSection
-    ensures { result ≡ no_section next }
-{
-    let blank = blank_rule();
-    let records = [blank; 64];
-    let rules = Rules { records, number: 0 };
-    RuleSection {
-        ok: false,
-        fits: false,
-        next,
-        used: 0,
-        rules,
-    }
-}
-
 // Lines of rules, with the names of their references into the pool from `used` on; where they do not fit, the pool becomes 0. Where a
 // line is malformed, or there are more than 64, or the text is longer than 65,536 bytes or `used` past `at`, no rule is left and the
 // pool becomes 0.
-pub fn read_rules(s: &[u8], at: usize, number: usize, pool: &mut [u8], used: usize) -> RuleSection
+pub fn read_rules(
+    s: &[u8],
+    at: usize,
+    number: usize,
+    pool: &mut [u8],
+    used: usize,
+) -> Result<RuleSection, Malformed>
     ensures value { result ≡ section_of used (length pool.old) (rules_at s.now at number used) }
     ensures pool_after { pool.new ≡ pool_after used (rules_at s.now at number used) pool.old }
 {
     if !has_room(s, at, number, used) {
-        lent::clear_u8(pool);
-        return no_rules(at);
+        pool.fill(0);
+        return Err(Malformed { at });
     }
-    let r = read_rule_lines(s, at, number, pool, used);
-    if !r.fits {
-        lent::clear_u8(pool);
+    match read_rule_lines(s, at, number, pool, used) {
+        Ok(section) => {
+            if !section.fits {
+                pool.fill(0);
+            }
+            Ok(section)
+        }
+        Err(malformed) => {
+            pool.fill(0);
+            Err(malformed)
+        }
     }
-    r
 }

@@ -1,175 +1,148 @@
 // Operands of a rule word: numbers and references, with the names of references into a lent pool.
-ghost use Rattle.std.specs.Prelude.{false, ◌≡◌};
+ghost use Rattle.std.specs.Prelude.{◌≡◌};
 ghost use Rattle.fields.specs.Room.{Room};
-ghost use Rattle.jobtext.specs.Fields.{reference_name, reference, operand, finite_bits};
+ghost use Rattle.jobtext.specs.Fields.{reference_name, reference, operand};
 ghost use Rattle.jobtext.specs.Rules.{second_if};
-ghost use Rattle.jobtext.specs.Laid.{name_bytes, operand_bytes};
-ghost use Rattle.rulelines.specs.Lines.{IsName, IsOperand, IsLiteral, IsReference, Pooled, reference_bytes};
+ghost use Rattle.jobtext.specs.Laid.{name_bytes, name_at, reference_at, operand_bytes, operand_at};
+ghost use Rattle.rulelines.specs.Lines.{placed_of, laid_of, bits_field, number_of, Pooled, reference_bytes};
 
-use fields::Field;
-use model::{A1Reference, ConditionalOperand, SheetName, Span};
+use crate::{Laid, Placed};
+use fields::Malformed;
+use model::{A1Reference, ConditionalOperand, Span};
 use readings::number::{float_of_bits, is_finite};
 
-#[derive(Clone, Copy)]
-pub(crate) struct ReadName {
-    pub(crate) ok: bool,
-    pub(crate) name: SheetName,
-    pub(crate) next: usize,
-    pub(crate) used: usize,
-}
-
-#[derive(Clone, Copy)]
-pub(crate) struct ReadOperand {
-    pub(crate) ok: bool,
-    pub(crate) operand: ConditionalOperand,
-    pub(crate) next: usize,
-    pub(crate) used: usize,
-}
-
-fn read_name(s: &[u8], at: usize, pool: &mut [u8], used: usize) -> ReadName
+#[tactic(auto, using(crate::proofs::Told::reads), unfolding(jobtext::specs::Fields::reference_name, jobtext::specs::Fields::text_field, jobtext::specs::Laid::name_at, jobtext::specs::Laid::name_bytes, grammar::specs::Parts::bytes))]
+fn read_name(
+    s: &[u8],
+    at: usize,
+    pool: &mut [u8],
+    used: usize,
+) -> Result<Laid<Option<Span>>, Malformed>
     requires { Room s.now at used }
-    ensures name { IsName (reference_name.parse s.now at) used result }
+    ensures name { result ≡ laid_of name_at name_bytes (reference_name.parse s.now at) used }
     ensures pooled { Pooled name_bytes (reference_name.parse s.now at) used pool.old pool.new }
 {
-    let d = fields::byte(s, at, b'-');
-    if d.ok {
-        let e = fields::byte(s, d.next, b' ');
-        return ReadName {
-            ok: e.ok,
-            name: SheetName::This,
-            next: e.next,
+    if let Ok(next) = fields::byte(s, at, b'-') {
+        let next = fields::byte(s, next, b' ')?;
+        return Ok(Laid {
+            value: None,
+            next,
             used,
-        };
+        });
     }
-    let t = fields::byte(s, at, b't');
-    if !t.ok {
-        return ReadName {
-            ok: false,
-            name: SheetName::This,
-            next: t.next,
-            used,
-        };
-    }
-    let f = fields::text(s, t.next, b' ', pool, used);
+    let mark = fields::byte(s, at, b't')?;
+    let name = fields::text(s, mark, b' ', pool, used)?;
     let span = Span {
         at: used as u32,
-        len: f.length as u32,
+        len: name.length as u32,
     };
-    ReadName {
-        ok: f.ok,
-        name: SheetName::Named(span),
-        next: f.next,
-        used: used + f.length as usize,
-    }
+    Ok(Laid {
+        value: Some(span),
+        next: name.next,
+        used: used + name.length,
+    })
 }
 
-fn no_operand(next: usize) -> ReadOperand
-    ensures { (result.ok ≡ false) × (result.next ≡ next) }
+// The number behind an `n`, which has to be finite.
+#[tactic(auto, using(crate::proofs::Told::reads), unfolding(crate::specs::Lines::bits_field, jobtext::specs::Fields::finite_bits, grammar::specs::Parts::bytes))]
+fn read_literal(s: &[u8], at: usize) -> Result<Placed<f64>, Malformed>
+    ensures { result ≡ placed_of (number_of (bits_field.parse s.now at)) }
 {
-    ReadOperand {
-        ok: false,
-        operand: ConditionalOperand::Unread,
-        next,
-        used: 0,
+    let bits = fields::bits(s, at, b' ')?;
+    let value = float_of_bits(bits.value);
+    if !is_finite(value) {
+        return Err(Malformed { at });
     }
+    Ok(Placed {
+        value,
+        next: bits.next,
+    })
 }
 
-// The number that was read behind an `n`, if it is finite.
-fn literal(f: Field, at: usize, used: usize) -> ReadOperand
-    ensures { IsLiteral (finite_bits f.value) f at used result }
-{
-    if !f.ok {
-        return no_operand(f.next);
-    }
-    let x = float_of_bits(f.value);
-    if !is_finite(x) {
-        return no_operand(at);
-    }
-    ReadOperand {
-        ok: true,
-        operand: ConditionalOperand::Literal(x),
-        next: f.next,
-        used,
-    }
-}
-
-fn read_reference(s: &[u8], at: usize, pool: &mut [u8], used: usize) -> ReadOperand
+#[tactic(auto, using(crate::proofs::Told::reads), unfolding(jobtext::specs::Fields::reference, jobtext::specs::Laid::reference_at, crate::specs::Lines::reference_bytes))]
+fn read_reference(
+    s: &[u8],
+    at: usize,
+    pool: &mut [u8],
+    used: usize,
+) -> Result<Laid<A1Reference>, Malformed>
     requires { Room s.now at used }
-    ensures reference { IsReference (reference.parse s.now at) used result }
+    ensures reference { result ≡ laid_of reference_at reference_bytes (reference.parse s.now at) used }
     ensures pooled { Pooled reference_bytes (reference.parse s.now at) used pool.old pool.new }
 {
-    let row = fields::decimal(s, at, 4294967295, b',');
-    if !row.ok {
-        return no_operand(row.next);
-    }
-    let col = fields::decimal(s, row.next, 65535, b',');
-    if !col.ok {
-        return no_operand(col.next);
-    }
-    let abs = fields::decimal(s, col.next, 3, b',');
-    if !abs.ok {
-        return no_operand(abs.next);
-    }
-    let n = read_name(s, abs.next, pool, used);
-    let sheet = n.name;
-    let f = A1Reference {
-        sheet,
+    let row = fields::decimal(s, at, 4294967295, b',')?;
+    let col = fields::decimal(s, row.next, 65535, b',')?;
+    let absolute = fields::decimal(s, col.next, 3, b',')?;
+    let sheet = read_name(s, absolute.next, pool, used)?;
+    let value = A1Reference {
+        sheet: sheet.value,
         row: row.value as u32,
         col: col.value as u16,
-        row_absolute: abs.value % 2 == 1,
-        col_absolute: 2 <= abs.value,
+        row_absolute: absolute.value % 2 == 1,
+        col_absolute: 2 <= absolute.value,
     };
-    ReadOperand {
-        ok: n.ok,
-        operand: ConditionalOperand::Reference(f),
-        next: n.next,
-        used: n.used,
-    }
+    Ok(Laid {
+        value,
+        next: sheet.next,
+        used: sheet.used,
+    })
 }
 
-pub(crate) fn read_operand(s: &[u8], at: usize, pool: &mut [u8], used: usize) -> ReadOperand
+#[tactic(auto, using(crate::proofs::Told::reads), unfolding(jobtext::specs::Fields::operand, jobtext::specs::Laid::operand_at, jobtext::specs::Laid::operand_bytes, crate::specs::Lines::bits_field, crate::specs::Lines::reference_bytes, grammar::specs::Parts::bytes))]
+pub(crate) fn read_operand(
+    s: &[u8],
+    at: usize,
+    pool: &mut [u8],
+    used: usize,
+) -> Result<Laid<ConditionalOperand>, Malformed>
     requires { Room s.now at used }
-    ensures operand { IsOperand (operand.parse s.now at) used result }
+    ensures operand { result ≡ laid_of operand_at operand_bytes (operand.parse s.now at) used }
     ensures pooled { Pooled operand_bytes (operand.parse s.now at) used pool.old pool.new }
 {
-    let n = fields::byte(s, at, b'n');
-    if n.ok {
-        let f = fields::bits(s, n.next, b' ');
-        return literal(f, n.next, used);
+    if let Ok(next) = fields::byte(s, at, b'n') {
+        let number = read_literal(s, next)?;
+        return Ok(Laid {
+            value: ConditionalOperand::Literal(number.value),
+            next: number.next,
+            used,
+        });
     }
-    let r = fields::byte(s, at, b'r');
-    if r.ok {
-        return read_reference(s, r.next, pool, used);
+    if let Ok(next) = fields::byte(s, at, b'r') {
+        let reference = read_reference(s, next, pool, used)?;
+        return Ok(Laid {
+            value: ConditionalOperand::Reference(reference.value),
+            next: reference.next,
+            used: reference.used,
+        });
     }
-    let u = fields::word(s, at, b"u ");
-    ReadOperand {
-        ok: u.ok,
-        operand: ConditionalOperand::Unread,
-        next: u.next,
+    let next = fields::word(s, at, b"u ")?;
+    Ok(Laid {
+        value: ConditionalOperand::Unread,
+        next,
         used,
-    }
+    })
 }
 
 // A second operand, or `-` where the operator uses none.
+#[tactic(auto, using(crate::proofs::Told::reads), unfolding(jobtext::specs::Laid::operand_at, jobtext::specs::Laid::operand_bytes, grammar::specs::Parts::bytes))]
 pub(crate) fn read_second(
     s: &[u8],
     at: usize,
     uses: bool,
     pool: &mut [u8],
     used: usize,
-) -> ReadOperand
+) -> Result<Laid<ConditionalOperand>, Malformed>
     requires { Room s.now at used }
-    ensures operand { IsOperand ((second_if uses).parse s.now at) used result }
+    ensures operand { result ≡ laid_of operand_at operand_bytes ((second_if uses).parse s.now at) used }
     ensures pooled { Pooled operand_bytes ((second_if uses).parse s.now at) used pool.old pool.new }
 {
     if uses {
         return read_operand(s, at, pool, used);
     }
-    let u = fields::word(s, at, b"- ");
-    ReadOperand {
-        ok: u.ok,
-        operand: ConditionalOperand::Unread,
-        next: u.next,
+    let next = fields::word(s, at, b"- ")?;
+    Ok(Laid {
+        value: ConditionalOperand::Unread,
+        next,
         used,
-    }
+    })
 }

@@ -1,9 +1,10 @@
 -- The texts of a rule line's parts, each as the pieces in which it is put. Assumes nothing.
 use Prim.Native.Nat.{ℕ}
-use mathlib.Core.Path.{◌≡◌}
-use mathlib.Core.Bool.{Bool, true, false, cond}
-use mathlib.Core.List.{List, [], ◌∷◌, ◌++◌, append_assoc, append-nil}
-use lib.Ieee.{Float, binary64, to_bits}
+use mathlib.Core.Path.{◌≡◌, refl, sym, subst}
+use mathlib.Core.Bool.{Bool, true, false, cond, not}
+use mathlib.Core.List.{List, [], ◌∷◌, ◌++◌, append_assoc}
+use lib.Dec.{T}
+use lib.Ieee.{Float, nan, inf, fin, is_nan, binary64, to_bits}
 use Rattle.model.specs.declared.A1Reference.{A1Reference}
 use Rattle.model.specs.declared.CfRule.{CfRule}
 use Rattle.model.specs.declared.ConditionalComparison.{ConditionalComparison}
@@ -11,15 +12,15 @@ use Rattle.model.specs.declared.ConditionalOperand.{ConditionalOperand}
 use Rattle.model.specs.declared.DvOp.{DvOp}
 use Rattle.model.specs.declared.Rgb.{Rgb}
 use Rattle.model.specs.declared.Rule.{Rule}
-use Rattle.model.specs.declared.SheetName.{SheetName}
-use Rattle.model.specs.declared.Span.{Span}
 use Rattle.model.specs.Comparison.{uses_second}
 use Rattle.model.specs.Readings.{finite}
-use Rattle.model.specs.Sheet.{text_at}
-use Rattle.grammar.specs.Parts.{space, comma, bytes, either}
-use Rattle.grammar.specs.Numbers.{decimal_text, hex_digits, pairs_text}
+use denote.Enum.Declared.{tag_of}
+use Rattle.model.specs.contracts.DvOp.{the_type as dv_op_type}
+use Rattle.model.specs.contracts.ConditionalComparison.{the_type as comparison_type}
+use Rattle.grammar.specs.Parts.{space, comma, bytes}
+use Rattle.grammar.specs.Numbers.{decimal_text, hex_digits}
 use Rattle.jobtext.specs.Written.{Operand}
-use Rattle.jobtext.specs.Fields.{flag, text_field, of_absolute, reference_name, reference, operand, colour, priority}
+use Rattle.jobtext.specs.Fields.{flag, of_absolute, reference_name, reference, operand, colour, priority}
 use Rattle.jobtext.specs.Fields.{of_dv_op, dv_op, of_comparison, comparison}
 use Rattle.jobtext.specs.Rules.{second_if, cell_is, expr, kind, rule_line}
 use Rattle.jobtext.specs.Said.{name_said, reference_said, operand_said, kind_said, rule_said}
@@ -29,13 +30,7 @@ use Rattle.rulewriter.specs.Ranges.{range_text}
 abbrev pub ended : ℕ → ℕ → List ℕ
 ended n end = decimal_text n ++ (end ∷ [])
 
--- ---- flags and colours
-
-pub either_second : (w v : List ℕ) {b : Bool} → b ≡ true → (either w v).text b ≡ v
-either_second w v e = rw e
-
-pub either_first : (w v : List ℕ) {b : Bool} → b ≡ false → (either w v).text b ≡ w
-either_first w v e = rw e (append-nil w)
+-- ---- colours
 
 pub colour_text : (end : List ℕ) (c : Rgb)
     → (colour end).text c ≡ hex_digits 2 c.red ++ (hex_digits 2 c.green ++ (hex_digits 2 c.blue ++ end))
@@ -58,15 +53,6 @@ module _ (x : Float) where
   literal_finite e p = rw (e, p)
 
 module _ (pool : List ℕ) where
-  pub name_this : {name : SheetName} → name ≡ SheetName.This → reference_name.text (name_said pool name) ≡ bytes "- "
-  unfolding bytes reference_name name_said
-  name_this e = rw e
-
-  pub name_named : {name : SheetName} {span : Span} {piece : List ℕ} → name ≡ SheetName.Named span → piece ≡ text_at pool span
-      → reference_name.text (name_said pool name) ≡ bytes "t" ++ (pairs_text piece ++ (space ∷ []))
-  unfolding reference_name text_field name_said
-  name_named e p = rw (e, p)
-
   pub reference_text : (a : A1Reference) {code : ℕ} → code ≡ of_absolute (a.row_absolute, a.col_absolute)
       → reference.text (reference_said pool a)
       ≡ ended a.row comma ++ (ended a.col comma ++ (ended code comma ++ reference_name.text (name_said pool a.sheet)))
@@ -81,15 +67,6 @@ module _ (pool : List ℕ) where
 module _ (pool : List ℕ) where
   abbrev second_text : Bool → ConditionalOperand → List ℕ
   second_text used o = (second_if used).text (cond used (operand_said pool o) Operand.unread)
-
-  pub second_used : {used : Bool} (o : ConditionalOperand) → used ≡ true → second_text used o ≡ operand.text (operand_said pool o)
-  second_used o e = rw e
-
-  pub second_unused : {used : Bool} (o : ConditionalOperand) → used ≡ false → second_text used o ≡ bytes "- "
-  second_unused o e = rw e
-
-  pub kind_as : {k l : CfRule} → k ≡ l → kind.text (kind_said pool k) ≡ kind.text (kind_said pool l)
-  kind_as e = rw e
 
   pub cell_is_text : (op : DvOp) {code : ℕ} {used : Bool} (first second : ConditionalOperand) (fill : Rgb) → code ≡ of_dv_op op
       → used ≡ uses_second op → kind.text (kind_said pool (CfRule.CellIs op first second fill))
@@ -114,3 +91,32 @@ pub rule_text : (pool : List ℕ) (rule : Rule) → rule_line.text (rule_said po
     ++ (flag.text rule.stop ++ (flag.text rule.imported ++ kind.text (kind_said pool rule.kind))))
 unfolding rule_line rule_said
 rule_text pool rule = simp append_assoc
+
+-- ---- numbers
+
+-- a finite number is a number
+pub finite_number : (x : Float) → finite x ≡ true → T (not (is_nan x))
+unfolding finite is_nan
+finite_number nan h = subst T (sym h) tt
+finite_number (inf s) h = tt
+finite_number (fin s m e) h = tt
+
+-- ---- operators: an operator's number is its place in the declaration
+
+pub dv_op_number : (op : DvOp) → tag_of dv_op_type op ≡ of_dv_op op
+dv_op_number DvOp.Between = refl
+dv_op_number DvOp.NotBetween = refl
+dv_op_number DvOp.Equal = refl
+dv_op_number DvOp.NotEqual = refl
+dv_op_number DvOp.GreaterThan = refl
+dv_op_number DvOp.LessThan = refl
+dv_op_number DvOp.GreaterThanOrEqual = refl
+dv_op_number DvOp.LessThanOrEqual = refl
+
+pub comparison_number : (op : ConditionalComparison) → tag_of comparison_type op ≡ of_comparison op
+comparison_number ConditionalComparison.Equal = refl
+comparison_number ConditionalComparison.NotEqual = refl
+comparison_number ConditionalComparison.Less = refl
+comparison_number ConditionalComparison.LessOrEqual = refl
+comparison_number ConditionalComparison.Greater = refl
+comparison_number ConditionalComparison.GreaterOrEqual = refl

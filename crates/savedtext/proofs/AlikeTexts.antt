@@ -1,4 +1,5 @@
 -- Two lent jobs that differ only in what a text has no place for say the same and have the same text. Assumes nothing.
+use Rattle.std.specs.Prelude.{Some, None}
 use Prim.Native.Nat.{ℕ, zero, suc, ◌+◌, ◌<◌}
 use native.Mathlib.Omega.{arith}
 use mathlib.Core.Path.{◌≡◌, refl, sym, ap, ap₂, ◌∙◌}
@@ -13,7 +14,7 @@ use Rattle.model.specs.declared.A1Reference.{A1Reference}
 use Rattle.model.specs.declared.CfRule.{CfRule}
 use Rattle.model.specs.declared.ConditionalOperand.{ConditionalOperand}
 use Rattle.model.specs.declared.Rule.{Rule}
-use Rattle.model.specs.declared.SheetName.{SheetName}
+use Rattle.model.specs.Options.{SheetName}
 use Rattle.model.specs.Comparison.{uses_second}
 use Rattle.model.specs.Readings.{finite}
 use Rattle.model.specs.Sheet.{CellColumns, text_at, regions_from}
@@ -68,10 +69,10 @@ module _ (p q : List ℕ) where
 
   name_alike : (a b : SheetName) → NameAlike p q a b → name_said p a ≡ name_said q b
   unfolding name_said
-  name_alike SheetName.This SheetName.This h = refl
-  name_alike SheetName.This (SheetName.Named t) h = absurd h
-  name_alike (SheetName.Named s) SheetName.This h = absurd h
-  name_alike (SheetName.Named s) (SheetName.Named t) h = ap some h
+  name_alike None None h = refl
+  name_alike None (Some t) h = absurd h
+  name_alike (Some s) None h = absurd h
+  name_alike (Some s) (Some t) h = ap some h
 
   reference_alike : (a b : A1Reference) → ReferenceAlike p q a b → reference_said p a ≡ reference_said q b
   unfolding reference_said

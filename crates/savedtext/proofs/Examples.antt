@@ -1,5 +1,6 @@
 -- Saving, computed on the definition: the worked job of document 01, wherever its name sits, has the worked text; and what a text keeps
 -- and what it has no place for, in small jobs with S = 5 and the limit 9. Assumes nothing.
+use Rattle.std.specs.Prelude.{Some}
 use Prim.Native.Nat.{ℕ}
 use Prim.Native.String.{String}
 use mathlib.Core.Path.{◌≡◌, refl}
@@ -9,7 +10,6 @@ use lib.ListN.{length, replicate}
 use Rattle.model.specs.declared.CfRule.{CfRule}
 use Rattle.model.specs.declared.ConditionalOperand.{ConditionalOperand}
 use Rattle.model.specs.declared.DvOp.{DvOp}
-use Rattle.model.specs.declared.SheetName.{SheetName}
 use Rattle.model.specs.Answer.{Summary, answer, refusal}
 use Rattle.model.specs.Job.{Job}
 use Rattle.model.proofs.Samples.{CellRow, span, cell, text, down, regions, rows, rule, prior, stopping, green, red, above}
@@ -28,7 +28,7 @@ worked start =
       records =
           rule (rows 3) (CfRule.DataBar green)
           ∷ stopping (prior 0 (rule (rows 3) above))
-          ∷ rule (rows 9) (equal_to (relative (SheetName.Named (span 9 9)) 0 0))
+          ∷ rule (rows 9) (equal_to (relative (Some (span 9 9)) 0 0))
           ∷ [];
       number = 2;
     }) start
@@ -120,7 +120,7 @@ not_finite = refl
 -- a second operand: a literal, an infinity, and a reference whose name is outside the pool
 abbrev seconds : List ConditionalOperand
 seconds =
-    literal 2 ∷ ConditionalOperand.Literal (float infinity) ∷ relative (SheetName.Named (span 9 9)) 0 0 ∷ []
+    literal 2 ∷ ConditionalOperand.Literal (float infinity) ∷ relative (Some (span 9 9)) 0 0 ∷ []
 
 abbrev with : DvOp → ConditionalOperand → CfRule
 with op second = CfRule.CellIs op (literal 1) second red

@@ -1,5 +1,6 @@
 -- How long the lines of a lent job's text are at most, whatever its numbers are, by the size of its pool: a decimal has at most 20 digits,
 -- a text two for each byte. Assumes nothing.
+use Rattle.std.specs.Prelude.{Some, None}
 use Prim.Native.Nat.{ℕ, zero, suc, ◌+◌, ◌*◌, ◌≤◌}
 use native.Mathlib.Omega.{arith}
 use mathlib.Core.Path.{◌≡◌}
@@ -14,10 +15,9 @@ use Rattle.model.specs.declared.CfRule.{CfRule}
 use Rattle.model.specs.declared.ConditionalComparison.{ConditionalComparison}
 use Rattle.model.specs.declared.ConditionalOperand.{ConditionalOperand}
 use Rattle.model.specs.declared.DvOp.{DvOp}
-use Rattle.model.specs.declared.Priority.{Priority}
+use Rattle.model.specs.Options.{Priority, SheetName}
 use Rattle.model.specs.declared.Rgb.{Rgb}
 use Rattle.model.specs.declared.Rule.{Rule}
-use Rattle.model.specs.declared.SheetName.{SheetName}
 use Rattle.model.specs.declared.Span.{Span}
 use Rattle.model.specs.Comparison.{uses_second}
 use Rattle.model.specs.Readings.{finite}
@@ -71,8 +71,8 @@ either_most w v n h k true = record { bytes = k }
 
 priority_most : (p : Priority) → Most 21 ((Fields.priority).text p)
 unfolding Fields.priority bytes
-priority_most Priority.Missing = record { bytes = omega arith }
-priority_most (Priority.Written n) = number_most 32 n
+priority_most None = record { bytes = omega arith }
+priority_most (Some n) = number_most 32 n
 
 scale2_most : (min max : Rgb) → Most 18 ((Rules.scale2).text (min, max))
 unfolding Rules.scale2 bytes
@@ -144,8 +144,8 @@ module _ (pool : List ℕ) (few : length pool ≤ 65_536) where
 
   name_most : (n : SheetName) → Most 131_074 ((Fields.reference_name).text (name_said pool n))
   unfolding Fields.reference_name name_said bytes
-  name_most SheetName.This = record { bytes = omega arith }
-  name_most (SheetName.Named s) = text_most 32 (text_at pool s) (length_text s)
+  name_most None = record { bytes = omega arith }
+  name_most (Some s) = text_most 32 (text_at pool s) (length_text s)
 
   reference_most : (r : A1Reference) → Most 131_137 ((Fields.reference).text (reference_said pool r))
   unfolding Fields.reference reference_said

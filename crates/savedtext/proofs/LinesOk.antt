@@ -1,4 +1,5 @@
 -- Each line of what a job of the declared types says has a text, its cells and regions being well-formed. Assumes nothing.
+use Rattle.std.specs.Prelude.{Some, None}
 use Prim.Native.Nat.{ℕ, zero, suc, ◌<◌}
 use native.Mathlib.Omega.{arith}
 use mathlib.Core.Path.{◌≡◌, refl}
@@ -13,10 +14,9 @@ use Rattle.model.specs.declared.CfRule.{CfRule}
 use Rattle.model.specs.declared.ConditionalComparison.{ConditionalComparison}
 use Rattle.model.specs.declared.ConditionalOperand.{ConditionalOperand}
 use Rattle.model.specs.declared.DvOp.{DvOp}
-use Rattle.model.specs.declared.Priority.{Priority}
+use Rattle.model.specs.Options.{Priority, SheetName}
 use Rattle.model.specs.declared.Rgb.{Rgb}
 use Rattle.model.specs.declared.Rule.{Rule}
-use Rattle.model.specs.declared.SheetName.{SheetName}
 use Rattle.model.specs.declared.Span.{Span}
 use Rattle.model.specs.Comparison.{uses_second}
 use Rattle.model.specs.Readings.{finite}
@@ -78,8 +78,8 @@ colour_ok end c t = (t.red, (t.green, t.blue))
 
 priority_ok : (p : Priority) → TypedPriority p → priority.Ok p
 unfolding priority
-priority_ok (Priority.Written n) t = omega arith
-priority_ok Priority.Missing t = tt
+priority_ok (Some n) t = omega arith
+priority_ok None t = tt
 
 dv_op_ok : (op : DvOp) → dv_op.Ok op
 unfolding dv_op
@@ -134,8 +134,8 @@ module _ (pool : List ℕ) (pooled : are_bytes pool) where
 
   name_ok_lem : (n : SheetName) → reference_name.Ok (name_said pool n)
   unfolding reference_name name_said text_field
-  name_ok_lem SheetName.This = tt
-  name_ok_lem (SheetName.Named s) = text_ok s
+  name_ok_lem None = tt
+  name_ok_lem (Some s) = text_ok s
 
   reference_ok : (r : A1Reference) → TypedReference r → reference.Ok (reference_said pool r)
   unfolding reference reference_said

@@ -1,4 +1,5 @@
 -- Rules that say the same are alike, their literals being values of an f64. Assumes nothing.
+use Rattle.std.specs.Prelude.{Some, None}
 use Prim.Native.Nat.{ℕ}
 use native.Mathlib.Omega.{arith}
 use mathlib.Core.Path.{◌≡◌, refl, sym, ap, ◌∙◌, subst}
@@ -11,7 +12,7 @@ use Rattle.model.specs.declared.A1Reference.{A1Reference}
 use Rattle.model.specs.declared.CfRule.{CfRule}
 use Rattle.model.specs.declared.ConditionalOperand.{ConditionalOperand}
 use Rattle.model.specs.declared.Rule.{Rule}
-use Rattle.model.specs.declared.SheetName.{SheetName}
+use Rattle.model.specs.Options.{SheetName}
 use Rattle.model.specs.Comparison.{uses_second}
 use Rattle.model.specs.Readings.{finite}
 use Rattle.jobtext.specs.Written.{Reference, Operand, Kind, RuleLine}
@@ -41,10 +42,10 @@ operand_saying pool ConditionalOperand.Unread h = unread ConditionalOperand.Unre
 module _ (p q : List ℕ) where
   name_alike : (s t : SheetName) → name_said p s ≡ name_said q t → NameAlike p q s t
   unfolding name_said
-  name_alike SheetName.This SheetName.This e = tt
-  name_alike SheetName.This (SheetName.Named t) e = let no : ◌≡◌ {A = ℕ} 0 1 = cc in omega arith
-  name_alike (SheetName.Named s) SheetName.This e = let no : ◌≡◌ {A = ℕ} 0 1 = cc in omega arith
-  name_alike (SheetName.Named s) (SheetName.Named t) e = cc
+  name_alike None None e = tt
+  name_alike None (Some t) e = let no : ◌≡◌ {A = ℕ} 0 1 = cc in omega arith
+  name_alike (Some s) None e = let no : ◌≡◌ {A = ℕ} 0 1 = cc in omega arith
+  name_alike (Some s) (Some t) e = cc
 
   reference_alike : (a b : A1Reference) → reference_said p a ≡ reference_said q b → ReferenceAlike p q a b
   unfolding reference_said

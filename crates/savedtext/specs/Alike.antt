@@ -2,7 +2,7 @@
 -- in non-finite against unread operands (document 02, T-01): field by field, what has to be equal. What is not named here is free: the
 -- number of a cell that is neither number nor date, the span of one that is neither text nor bool, a bool's place, a second operand that
 -- the operator does not use, rule records past their number, and bytes of the pool that no text has. Assumes nothing.
-use Rattle.std.specs.Prelude.{ℕ, ◌<◌, ◌≡◌, ◌⊎◌, Bool, true, false, not, List, [], ◌∷◌, Float, get_or}
+use Rattle.std.specs.Prelude.{ℕ, ◌<◌, ◌≡◌, ◌⊎◌, Bool, true, false, not, List, [], ◌∷◌, Float, get_or, Some, None}
 use Rattle.model.specs.declared.A1Reference.{A1Reference}
 use Rattle.model.specs.declared.CfRule.{CfRule}
 use Rattle.model.specs.declared.ConditionalComparison.{ConditionalComparison}
@@ -10,7 +10,7 @@ use Rattle.model.specs.declared.ConditionalOperand.{ConditionalOperand}
 use Rattle.model.specs.declared.DvOp.{DvOp}
 use Rattle.model.specs.declared.Rgb.{Rgb}
 use Rattle.model.specs.declared.Rule.{Rule}
-use Rattle.model.specs.declared.SheetName.{SheetName}
+use Rattle.model.specs.Options.{SheetName}
 use Rattle.model.specs.declared.Span.{Span}
 use Rattle.model.specs.Comparison.{uses_second}
 use Rattle.model.specs.Readings.{finite}
@@ -52,10 +52,10 @@ module _ (p q : List ℕ) where
   -- ---- rules
 
   abbrev pub NameAlike : SheetName → SheetName → Type 0
-  NameAlike SheetName.This SheetName.This = Unit {0}
-  NameAlike SheetName.This (SheetName.Named t) = ⊥
-  NameAlike (SheetName.Named s) SheetName.This = ⊥
-  NameAlike (SheetName.Named s) (SheetName.Named t) = SameText s t
+  NameAlike None None = Unit {0}
+  NameAlike None (Some t) = ⊥
+  NameAlike (Some s) None = ⊥
+  NameAlike (Some s) (Some t) = SameText s t
 
   pub record ReferenceAlike (a b : A1Reference) : Type 0 where
     pub row : a.row ≡ b.row

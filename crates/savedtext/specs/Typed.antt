@@ -1,12 +1,12 @@
 -- What the lent columns, the rules and the numbers of a job hold by their types: u8, u16, u32, u64 and f64. A job over lists of whole
 -- numbers could hold more; no memory of these types can. Assumes nothing.
-use Rattle.std.specs.Prelude.{ℕ, ◌^◌, ◌<◌, List, [], ◌∷◌, T, get_or}
+use Rattle.std.specs.Prelude.{ℕ, ◌^◌, ◌<◌, List, [], ◌∷◌, T, get_or, Some, None}
 use Rattle.std.specs.Float.{binary64}
 use Rattle.std.specs.Float.Ieee.{fits}
 use Rattle.model.specs.declared.A1Reference.{A1Reference}
 use Rattle.model.specs.declared.CfRule.{CfRule}
 use Rattle.model.specs.declared.ConditionalOperand.{ConditionalOperand}
-use Rattle.model.specs.declared.Priority.{Priority}
+use Rattle.model.specs.Options.{Priority}
 use Rattle.model.specs.declared.Range.{Range}
 use Rattle.model.specs.declared.Rgb.{Rgb}
 use Rattle.model.specs.declared.Rule.{Rule}
@@ -28,8 +28,8 @@ pub record TypedRange (r : Range) : Type 0 where
   pub right : r.right < 2 ^ 16
 
 abbrev pub TypedPriority : Priority → Type 0
-TypedPriority (Priority.Written n) = n < 2 ^ 32
-TypedPriority Priority.Missing = Unit {0}
+TypedPriority (Some n) = n < 2 ^ 32
+TypedPriority None = Unit {0}
 
 pub record TypedReference (r : A1Reference) : Type 0 where
   pub row : r.row < 2 ^ 32

@@ -2,10 +2,10 @@
 #![tactic(auto)]
 
 ghost use Rattle.std.specs.Prelude.{◌≡◌};
-ghost use Rattle.settling.specs.Settling.{refused_with, told, settled_to};
+ghost use Rattle.settling.specs.Settling.{told, settled_to};
 
 use charging::Charged;
-use model::Answer;
+use model::{Answer, Answered, Refusal};
 
 // What the rules came to: the charges, and how many marks, deferred and simplified rules there are.
 #[derive(Clone, Copy)]
@@ -16,53 +16,24 @@ pub struct Ran {
     pub simplified: u64,
 }
 
-// The answer, and whether the job is answered.
-#[derive(Clone, Copy)]
-pub struct Settled {
-    pub answer: Answer,
-    pub answered: bool,
-}
-
-fn refused(answer: Answer) -> Settled
-    ensures { result ≡ refused_with answer }
-{
-    Settled {
-        answer,
-        answered: false,
-    }
-}
-
 // 7 and 8 as the charges ended, and 9 only when all of them were accepted.
-pub fn settle(ran: Ran, space: usize) -> Settled
+#[tactic(auto, unfolding(model::specs::Answer::summary, model::specs::Answer::refused_by, model::specs::Answer::refusal, model::specs::Answer::answer))]
+pub fn settle(ran: Ran, space: usize) -> Answer
     ensures { told result ≡ settled_to space ran }
 {
-    let charged = ran.charged;
     let marks = ran.marks as u64;
-    match charged {
-        Charged::Within(counter) => {
-            let count = counter.count;
-            if space < ran.marks as usize {
-                return refused(Answer::MarksExceedSpace {
-                    count,
-                    actual: marks,
-                });
-            }
-            Settled {
-                answer: Answer::Answered {
-                    count,
-                    marks,
-                    deferred: ran.deferred,
-                    simplified: ran.simplified,
-                },
-                answered: true,
-            }
-        }
-        Charged::LimitExceeded(counter, actual) => refused(Answer::LimitExceeded {
-            count: counter.count,
-            actual,
-        }),
-        Charged::CoordinateOverflow(counter) => refused(Answer::CoordinateOverflow {
-            count: counter.count,
-        }),
+    let counter = ran.charged?;
+    let count = counter.count;
+    if space < ran.marks as usize {
+        return Err(Refusal::MarksExceedSpace {
+            count,
+            actual: marks,
+        });
     }
+    Ok(Answered {
+        count,
+        marks,
+        deferred: ran.deferred,
+        simplified: ran.simplified,
+    })
 }

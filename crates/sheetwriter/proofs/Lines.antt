@@ -12,8 +12,9 @@ use Rattle.grammar.specs.Numbers.{decimal_text, pairs_text}
 use Rattle.jobtext.specs.Fields.{text_field, value}
 use Rattle.jobtext.specs.Text.{head_names, head, cell_line}
 use Rattle.jobtext.specs.Said.{value_said, cell_said, cells_said}
-use Rattle.put.specs.Put.{last, Laid, Ready}
-use Rattle.put.proofs.Laws.{LaidLeft, left_begun, left_length, left_more, left_done}
+use Rattle.put.specs.declared.Cursor.{Cursor}
+use Rattle.put.specs.Put.{last, Puts, Ready}
+use Rattle.put.proofs.Laws.{PutsLeft, puts_begun, puts_more, puts_done}
 use Rattle.sheetwriter.specs.Lines.{head_with, coordinate_in}
 
 -- ---- pieces
@@ -58,30 +59,26 @@ unfolding regions_from
 regions_listed rows cols = record { none = λ i. refl; some = λ i n. refl }
 
 -- of the lines of n items those from index i on are left to put
-pub record LinesLeft {A : Type 0} (line : A → List ℕ) (items : ℕ → ℕ → List A) (n : ℕ) (d : List ℕ) (at i : ℕ) (e : List ℕ) (q : ℕ)
-    : Type 0 where
-  pub left : LaidLeft d at (times_text line (items 0 n)) e q (times_text line (items i (n - i)))
+pub record LinesLeft {A : Type 0} (line : A → List ℕ) (items : ℕ → ℕ → List A) (n : ℕ) (c : Cursor) (i : ℕ) (d : Cursor) : Type 0 where
+  pub left : PutsLeft c (times_text line (items 0 n)) d (times_text line (items i (n - i)))
 
 module _ {A : Type 0} {line : A → List ℕ} {items : ℕ → ℕ → List A} {n : ℕ} where
-  pub lines_begun : {d : List ℕ} {at : ℕ} → Ready d at → LinesLeft line items n d at 0 d at
-  lines_begun r = let e : n - 0 ≡ n = omega arith in record { left = rw e (left_begun r) }
-
-  pub lines_length : {d e : List ℕ} {at i q : ℕ} → LinesLeft line items n d at i e q → length e ≡ length d
-  lines_length l = left_length l.left
+  pub lines_begun : {c : Cursor} → Ready c.bytes.now c.at → LinesLeft line items n c 0 c
+  lines_begun r = let e : n - 0 ≡ n = omega arith in record { left = rw e (puts_begun r) }
 
   -- a line more
-  pub lines_more : {item : ℕ → A} {d e f : List ℕ} {at i q r : ℕ} → Listed item items → length d < last → i < n
-      → LinesLeft line items n d at i e q → Laid e q (line (item i)) f r → LinesLeft line items n d at (i + 1) f r
+  pub lines_more : {item : ℕ → A} {c d e : Cursor} {i : ℕ} → Listed item items → length c.bytes.now < last → i < n
+      → LinesLeft line items n c i d → Puts d (line (item i)) e → LinesLeft line items n c (i + 1) e
   unfolding times_text
-  lines_more {item} {i = i} listed room h l a = record { left = left_more room l.left next a }
+  lines_more {item} {i = i} listed room h l a = record { left = puts_more room l.left next a }
     where
       next : times_text line (items i (n - i)) ≡ line (item i) ++ times_text line (items (i + 1) (n - (i + 1)))
       next = let e : n - i ≡ suc (n - suc i) = omega arith in rw (add-one, e, listed.some i (n - suc i))
 
-  pub lines_done : {item : ℕ → A} {d e : List ℕ} {at i q : ℕ} → Listed item items → n ≤ i → LinesLeft line items n d at i e q
-      → Laid d at (times_text line (items 0 n)) e q
+  pub lines_done : {item : ℕ → A} {c d : Cursor} {i : ℕ} → Listed item items → n ≤ i → LinesLeft line items n c i d
+      → Puts c (times_text line (items 0 n)) d
   unfolding times_text
-  lines_done {i = i} listed h l = left_done l.left none
+  lines_done {i = i} listed h l = puts_done l.left none
     where
       none : times_text line (items i (n - i)) ≡ []
       none = let e : n - i ≡ 0 = omega arith in rw (e, listed.none i)

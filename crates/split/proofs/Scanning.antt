@@ -1,17 +1,17 @@
--- The scan byte by byte: the end, a quote, a byte inside quotes, an operator, any other byte; and both parts. Assumes nothing.
+-- The scan byte by byte: the end, a quote, a byte inside quotes, an operator, any other byte; and the right part. Assumes nothing.
+use Rattle.std.specs.Prelude.{Some, None, is_some}
 use Prim.Native.Nat.{ℕ, suc, ◌+◌, ◌≤◌, ◌<◌}
-use mathlib.Core.Path.{◌≡◌, refl, sym, ap, ◌∙◌}
+use mathlib.Core.Path.{◌≡◌, refl, sym, ◌∙◌}
 use mathlib.Core.List.{List, [], ◌∷◌}
 use mathlib.Core.Bool.{Bool, true, false, cond, not}
 use native.Mathlib.Nat.{add-zero}
 use native.Mathlib.Numerals.{add-one}
-use lib.ListN.{length, take, drop, get_or, drop_of_length-le}
+use lib.ListN.{length, drop, get_or, drop_of_length-le}
 use lib.Seq.{drop-cons, drop-drop, get_or-drop}
 use lib.Dec.{eqb, eqb-zero-suc}
 use borrow.Author.Tests.{eq-eqb, ne_eqb}
-use Rattle.model.specs.declared.ConditionalComparison.{ConditionalComparison}
-use Rattle.model.specs.declared.Split.{Split}
-use Rattle.model.specs.Split.{formula, begins, split_at, operator_at, or_later, scan, split, behind, right_part, ahead, left_part}
+use Rattle.model.specs.Options.{Split}
+use Rattle.model.specs.Split.{begins, operator_at, or_later, scan}
 
 -- ---- an operator is told by its byte and the next, where 0 stands for no byte
 
@@ -40,8 +40,18 @@ unfolding scan
 leftAt-step bs i quoted h =
     rw (add-one, drop-cons bs i 0 h, operator_at_two i (get_or bs i 0) (drop (suc i) bs), get_or-drop (suc i) bs 0 0, add-zero)
 
+found_first : (here later : Split) → is_some here ≡ true → here ≡ or_later here later
+unfolding or_later
+found_first (Some s) later e = refl
+found_first None later e = cc
+
+found_later : (here later : Split) → is_some here ≡ false → or_later here later ≡ later
+unfolding or_later
+found_later (Some s) later e = cc
+found_later None later e = refl
+
 module _ (bs : List ℕ) (i : ℕ) (quoted : Bool) (whole : Split) (left : left_at bs i quoted ≡ whole) where
-  pub scan_end : length bs ≤ i → Split.Nothing ≡ whole
+  pub scan_end : length bs ≤ i → None ≡ whole
   unfolding scan
   scan_end h = rw (drop_of_length-le bs h) at left
 
@@ -56,32 +66,13 @@ module _ (bs : List ℕ) (i : ℕ) (quoted : Bool) (whole : Split) (left : left_
     scan_here : or_later here (left_at bs (i + 1) quoted) ≡ whole
     scan_here = rw t (rw (leftAt-step bs i quoted h, ne_eqb _ _ n, t, ← read, ← found) at left)
 
-    pub scan_operator : (op : ConditionalComparison) (at width : ℕ) → here ≡ split_at op at width → here ≡ whole
-    unfolding or_later
-    scan_operator op at width e = rw e (rw e at scan_here)
+    pub scan_operator : is_some here ≡ true → here ≡ whole
+    scan_operator e = found_first here _ e ∙ scan_here
 
-    pub scan_on : here ≡ Split.Nothing → left_at bs (i + 1) quoted ≡ whole
-    unfolding or_later
-    scan_on e = rw e at scan_here
+    pub scan_on : is_some here ≡ false → left_at bs (i + 1) quoted ≡ whole
+    scan_on e = sym (found_later here _ e) ∙ scan_here
 
--- ---- the right part and the left part
+-- ---- the right part is cut twice
 
-module _ (bs part : List ℕ) (here : Split) (parted : part ≡ formula bs) (scanned : here ≡ scan false 0 part) where
-  pub right_part_at
-      : (op : ConditionalComparison) (at width : ℕ) → here ≡ split_at op at width
-      → (rest right : List ℕ) → rest ≡ drop at part → right ≡ drop width rest → right ≡ right_part bs
-  unfolding split behind right_part
-  right_part_at op at width e rest right first then = then ∙ (ap (drop width) first ∙ rw (← parted, ← scanned, e) (drop-drop width at part))
-
-  pub right_part_none : here ≡ Split.Nothing → [] ≡ right_part bs
-  unfolding split behind right_part
-  right_part_none e = rw (← parted, ← scanned, e)
-
-  pub left_part_at : (op : ConditionalComparison) (at width : ℕ) → here ≡ split_at op at width
-      → (left : List ℕ) → left ≡ take at part → left ≡ left_part bs
-  unfolding split ahead left_part
-  left_part_at op at width e left first = first ∙ rw (← parted, ← scanned, e)
-
-  pub left_part_none : here ≡ Split.Nothing → [] ≡ left_part bs
-  unfolding split ahead left_part
-  left_part_none e = rw (← parted, ← scanned, e)
+pub drop_twice : (width at : ℕ) (bs : List ℕ) → drop width (drop at bs) ≡ drop (at + width) bs
+drop_twice width at bs = drop-drop width at bs

@@ -1,101 +1,56 @@
--- The formula byte by byte: what one byte at either end adds to `drop_blanks`, and what a leading `=` does. Assumes nothing.
-use Prim.Native.Nat.{ℕ, suc, ◌+◌, ◌-◌, ◌≤◌, ◌<◌}
-use mathlib.Core.Path.{◌≡◌, refl, sym, ap, ◌∙◌}
-use mathlib.Core.List.{List, [], ◌∷◌, reverse, reverse-append, reverse-reverse}
-use mathlib.Core.Bool.{true, false, or-false}
-use native.Mathlib.Omega.{arith}
-use native.Mathlib.Numerals.{add-one}
-use lib.ListN.{length, drop, take, get_or, drop_of_length-le}
-use lib.Seq.{drop-cons, take-suc, take-length}
-use lib.Dec.{leb, eqb}
-use borrow.Author.Tests.{ne_eqb, le-leb, lt-leb}
-use Rattle.model.specs.Split.{blank, drop_blanks, without_equals}
+-- Where the blanks at either end of some bytes are passed, by the place of the first byte that is none. Assumes nothing.
+use Rattle.std.proofs.Common.{◌≡◌, ℕ, ◌+◌, ◌-◌, ◌≤◌, Bool, true, false, not, cond, List, [], ◌∷◌, ◌++◌, Option, Some, None, length, take, drop, ltb, inl, inr, length-drop, refl, sym, ap, ◌∙◌, arith, one-add, unwrap_or}
+use Rattle.std.specs.List.{position_or_len}
+use Rattle.std.proofs.lemmas.Bool.{cases_lt, lt-ltb, le-ltb}
+use Rattle.std.proofs.lemmas.List.{reverse-append, length-reverse, take-append-drop}
+use Rattle.std.proofs.lemmas.List.Sums.{prefix_len-le-length}
+use Rattle.std.proofs.Math.Seq.{take-append_seam}
+use mathlib.Core.List.{reverse, reverse-reverse}
+use Rattle.model.specs.Split.{blank, drop_blanks}
 
--- ---- one byte
+abbrev pub kept : ℕ → Bool
+kept b = not (blank b)
 
-module _ (b : ℕ) where
-  pub blank_space : b ≡ 32 → eqb b 32 ≡ blank b
-  unfolding blank
-  blank_space e = rw e
+-- how many bytes come before the first that is no blank
+abbrev pub blanks : List ℕ → ℕ
+blanks bs = position_or_len kept bs
 
-  pub blank_low : (b ≡ 32 → ⊥) → b < 9 → leb 9 b ≡ blank b
-  unfolding blank
-  blank_low n h = rw (ne_eqb _ _ n, lt-leb _ _ h)
-
-  pub blank_rest : (b ≡ 32 → ⊥) → 9 ≤ b → leb b 13 ≡ blank b
-  unfolding blank
-  blank_rest n h = rw (ne_eqb _ _ n, le-leb _ _ h, or-false)
-
--- ---- blanks at the start of a list
-
-module _ (bs rest : List ℕ) (b : ℕ) (begin : bs ≡ b ∷ rest) where
-  drop_blanks_blank : blank b ≡ true → drop_blanks bs ≡ drop_blanks rest
-  unfolding drop_blanks
-  drop_blanks_blank t = rw (begin, t)
-
-  drop_blanks_other : blank b ≡ false → drop_blanks bs ≡ bs
-  unfolding drop_blanks
-  drop_blanks_other t = rw (begin, t)
-
-drop_blanks_empty : (bs : List ℕ) → bs ≡ [] → drop_blanks bs ≡ bs
+dropped : (bs : List ℕ) → drop (blanks bs) bs ≡ drop_blanks bs
 unfolding drop_blanks
-drop_blanks_empty bs e = rw e
+dropped [] = refl
+dropped (b ∷ bs) =
+    elim (blank b) as (λ t. drop (cond (not (not t)) (1 + blanks bs) 0) (b ∷ bs) ≡ cond t (drop_blanks bs) (b ∷ bs)) [
+      | true ↦ rw one-add (dropped bs)
+      | false ↦ refl
+    ]
 
--- ---- the blanks at the start, dropped as far as `i`
+-- what `position` answers, or the length
+module _ (bs : List ℕ) (r : Option ℕ) (n : ℕ) (at : r ≡ cond (ltb (blanks bs) (length bs)) (Some (blanks bs)) None)
+    (or_length : n ≡ unwrap_or r (length bs)) where
+  counted : n ≡ blanks bs
+  counted =
+      let within : blanks bs ≤ length bs = prefix_len-le-length (λ b. not (kept b)) bs in
+      elim (cases_lt (blanks bs) (length bs)) [
+        | inl h ↦ rw (or_length, at, lt-ltb _ _ h)
+        | inr h ↦ let e : length bs ≡ blanks bs = omega arith in rw (or_length, at, le-ltb _ _ h) e
+      ]
 
-module _ (bs : List ℕ) (i : ℕ) (left : drop_blanks (drop i bs) ≡ drop_blanks bs) where
-  drop_next : i < length bs → drop i bs ≡ get_or bs i 0 ∷ drop (i + 1) bs
-  drop_next h = rw (add-one, drop-cons bs i 0)
+  pub start_kept : drop n bs ≡ drop_blanks bs
+  start_kept = rw counted (dropped bs)
 
-  pub start_blank : i < length bs → blank (get_or bs i 0) ≡ true → drop_blanks (drop (i + 1) bs) ≡ drop_blanks bs
-  start_blank h t = sym (drop_blanks_blank _ _ _ (drop_next h) t) ∙ left
+-- the bytes ahead of the last m are those left when m are dropped backwards
+taken : (m : ℕ) (bs : List ℕ) → take (length bs - m) bs ≡ reverse (drop m (reverse bs))
+taken m bs =
+    let front : List ℕ = reverse (take m (reverse bs)) in
+    let kept : List ℕ = reverse (drop m (reverse bs)) in
+    let whole : bs ≡ kept ++ front =
+    sym (sym (reverse-append (take m (reverse bs)) (drop m (reverse bs))) ∙ ap reverse (take-append-drop m (reverse bs)) ∙ reverse-reverse bs) in
+    let long : length bs - m ≡ length kept =
+    sym (length-reverse (drop m (reverse bs)) ∙ length-drop m (reverse bs) ∙ ap (λ n. n - m) (length-reverse bs)) in
+    ap (λ n. take n bs) long ∙ ap (take (length kept)) whole ∙ take-append_seam kept front
 
-  pub start_other : i < length bs → blank (get_or bs i 0) ≡ false → drop i bs ≡ drop_blanks bs
-  start_other h t = sym (drop_blanks_other _ _ _ (drop_next h) t) ∙ left
-
-  pub start_empty : length bs ≤ i → drop i bs ≡ drop_blanks bs
-  start_empty h = sym (drop_blanks_empty _ (drop_of_length-le bs h)) ∙ left
-
--- ---- the blanks at the end, dropped as far as `n`
-
--- the first `n` bytes, backwards
-unfoldable pub back : List ℕ → ℕ → List ℕ
-back bs n = reverse (take n bs)
-
-module _ (bs : List ℕ) (n : ℕ) (left : drop_blanks (back bs n) ≡ drop_blanks (reverse bs)) where
-  back_next : 0 < n → n ≤ length bs → back bs n ≡ get_or bs (n - 1) 0 ∷ back bs (n - 1)
-  unfolding back
-  back_next pos h =
-      let one : n ≡ suc (n - 1) = omega arith in
-      ap (back bs) one ∙ (ap reverse (take-suc bs (n - 1) 0 (omega arith)) ∙ reverse-append (take (n - 1) bs) (get_or bs (n - 1) 0 ∷ []))
-
-  pub end_blank : 0 < n → n ≤ length bs → blank (get_or bs (n - 1) 0) ≡ true → drop_blanks (back bs (n - 1)) ≡ drop_blanks (reverse bs)
-  end_blank pos h t = sym (drop_blanks_blank _ _ _ (back_next pos h) t) ∙ left
-
-  -- where no blank is left at their end, the first `n` bytes are what is kept
-  end_kept : drop_blanks (back bs n) ≡ back bs n → take n bs ≡ reverse (drop_blanks (reverse bs))
-  unfolding back
-  end_kept k = sym (reverse-reverse (take n bs)) ∙ ap reverse (sym k ∙ left)
-
-  pub end_other : 0 < n → n ≤ length bs → blank (get_or bs (n - 1) 0) ≡ false → take n bs ≡ reverse (drop_blanks (reverse bs))
-  end_other pos h t = end_kept (drop_blanks_other _ _ _ (back_next pos h) t)
-
-  pub end_empty : n ≤ 0 → take n bs ≡ reverse (drop_blanks (reverse bs))
-  unfolding back
-  end_empty h = let none : n ≡ 0 = omega arith in end_kept (drop_blanks_empty _ (ap (back bs) none))
-
-pub end_whole : (bs : List ℕ) → drop_blanks (back bs (length bs)) ≡ drop_blanks (reverse bs)
-unfolding back
-end_whole bs = ap (λ (l : List ℕ). drop_blanks (reverse l)) (take-length bs)
-
--- ---- one leading `=`
-
-pub without_equals_equals : (bs : List ℕ) → get_or bs 0 0 ≡ 61 → without_equals bs ≡ drop 1 bs
-unfolding without_equals
-without_equals_equals [] e = refl
-without_equals_equals (b ∷ bs) e = rw e
-
-pub without_equals_other : (bs : List ℕ) → (get_or bs 0 0 ≡ 61 → ⊥) → without_equals bs ≡ bs
-unfolding without_equals
-without_equals_other [] n = refl
-without_equals_other (b ∷ bs) n = rw (ne_eqb _ _ n)
+pub end_kept : (bs : List ℕ) (r : Option ℕ) (n : ℕ)
+    → r ≡ cond (ltb (blanks (reverse bs)) (length (reverse bs))) (Some (blanks (reverse bs))) None → n ≡ unwrap_or r (length bs)
+    → take (length bs - n) bs ≡ reverse (drop_blanks (reverse bs))
+end_kept bs r n at or_length =
+    taken n bs ∙ ap reverse (start_kept (reverse bs) r n at (or_length ∙ ap (unwrap_or r) (sym (length-reverse bs))))

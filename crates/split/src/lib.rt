@@ -12,40 +12,38 @@ use model::{ConditionalComparison, Split};
 fn byte_at(bytes: &[u8], at: usize) -> u8
     ensures { result ≡ get_or bytes.now at 0 }
 {
-    if at < bytes.len() { bytes[at] } else { 0 }
+    bytes.get(at).copied().unwrap_or(0)
 }
 
 // The bytes from a position on, none past the end.
 fn from(bytes: &[u8], at: usize) -> &[u8]
     ensures { result.now ≡ drop at bytes.now }
 {
-    if at <= bytes.len() {
-        &bytes[at..]
-    } else {
-        &bytes[..0]
-    }
+    &bytes[at.min(bytes.len())..]
+}
+
+// The bytes up to a position, all of them past the end.
+fn up_to(bytes: &[u8], end: usize) -> &[u8]
+    ensures { result.now ≡ take end bytes.now }
+{
+    &bytes[..end.min(bytes.len())]
 }
 
 // ---- the formula
 
+#[tactic(auto, unfolding(model::specs::Split::blank))]
 fn blank(byte: u8) -> bool
     ensures { result ≡ blank byte }
 {
-    byte == b' ' || 9 <= byte && byte <= 13
+    matches!(byte, 9..=13 | b' ')
 }
 
 // Where the blanks at the start end.
 fn first_kept(bytes: &[u8]) -> usize
     ensures { drop result bytes.now ≡ drop_blanks bytes.now }
 {
-    let mut at = 0;
-    while at < bytes.len() {
-        if !blank(bytes[at]) {
-            return at;
-        }
-        at += 1;
-    }
-    at
+    let kept = bytes.iter().position(|b| !blank(*b));
+    kept.unwrap_or(bytes.len())
 }
 
 // Where the blanks at the end begin.
@@ -53,14 +51,8 @@ fn last_kept(bytes: &[u8]) -> usize
     ensures within { result ≤ length bytes.now }
     ensures kept { take result bytes.now ≡ reverse (drop_blanks (reverse bytes.now)) }
 {
-    let mut end = bytes.len();
-    while 0 < end {
-        if !blank(bytes[end - 1]) {
-            return end;
-        }
-        end -= 1;
-    }
-    end
+    let kept = bytes.iter().rev().position(|b| !blank(*b));
+    bytes.len() - kept.unwrap_or(bytes.len())
 }
 
 // Without the blanks at both ends.
@@ -73,17 +65,18 @@ fn trimmed(bytes: &[u8]) -> &[u8]
 }
 
 // Without one leading `=`.
+#[tactic(auto, unfolding(model::specs::Split::without_equals))]
 fn without_equals(bytes: &[u8]) -> &[u8]
     ensures { result.now ≡ without_equals bytes.now }
 {
-    if byte_at(bytes, 0) == b'=' {
-        from(bytes, 1)
-    } else {
-        bytes
+    match bytes {
+        [b'=', rest @ ..] => rest,
+        _ => bytes,
     }
 }
 
 // The bytes in which positions are counted.
+#[tactic(auto, unfolding(model::specs::Split::formula))]
 pub fn formula(bytes: &[u8]) -> &[u8]
     ensures { result.now ≡ formula bytes.now }
 {
@@ -92,109 +85,74 @@ pub fn formula(bytes: &[u8]) -> &[u8]
 
 // ---- the operator
 
-fn split_at(op: ConditionalComparison, at: usize, width: usize) -> Split
+fn split_at(op: ConditionalComparison, at: usize, width: usize) -> Option<Split>
     ensures { result ≡ split_at op at width }
 {
-    Split::At { op, at, width }
+    Some(Split { op, at, width })
 }
 
 // The operator that `byte` and `next` begin with, which stands at `at`.
-fn operator(at: usize, byte: u8, next: u8) -> Split
+#[tactic(auto, unfolding(model::specs::Split::operator_at, model::specs::Split::begins))]
+fn operator(at: usize, byte: u8, next: u8) -> Option<Split>
     ensures { result ≡ operator_at at (byte ∷ next ∷ []) }
 {
-    if byte == b'<' {
-        if next == b'>' {
-            return split_at(ConditionalComparison::NotEqual, at, 2);
-        }
-        if next == b'=' {
-            return split_at(ConditionalComparison::LessOrEqual, at, 2);
-        }
-        return split_at(ConditionalComparison::Less, at, 1);
+    match (byte, next) {
+        (b'<', b'>') => split_at(ConditionalComparison::NotEqual, at, 2),
+        (b'<', b'=') => split_at(ConditionalComparison::LessOrEqual, at, 2),
+        (b'>', b'=') => split_at(ConditionalComparison::GreaterOrEqual, at, 2),
+        (b'<', _) => split_at(ConditionalComparison::Less, at, 1),
+        (b'>', _) => split_at(ConditionalComparison::Greater, at, 1),
+        (b'=', _) => split_at(ConditionalComparison::Equal, at, 1),
+        _ => None,
     }
-    if byte == b'>' {
-        if next == b'=' {
-            return split_at(ConditionalComparison::GreaterOrEqual, at, 2);
-        }
-        return split_at(ConditionalComparison::Greater, at, 1);
-    }
-    if byte == b'=' {
-        return split_at(ConditionalComparison::Equal, at, 1);
-    }
-    Split::Nothing
 }
 
 // The first operator outside quotes. The second of `''` inside quotes opens them again.
-fn scan(bytes: &[u8]) -> Split
+fn scan(bytes: &[u8]) -> Option<Split>
     ensures { result ≡ scan false 0 bytes.now }
 {
     let mut quoted = false;
-    let mut at = 0;
-    while at < bytes.len() {
-        let byte = bytes[at];
-        if byte == b'\'' {
+    for (at, byte) in bytes.iter().enumerate() {
+        if *byte == b'\'' {
             quoted = !quoted;
-            at += 1;
-            continue;
-        }
-        if quoted {
-            at += 1;
-            continue;
-        }
-        let here = operator(at, byte, byte_at(bytes, at + 1));
-        match here {
-            Split::At {
-                op: _,
-                at: _,
-                width: _,
-            } => return here,
-            Split::Nothing => {
-                at += 1;
+        } else if !quoted {
+            let here = operator(at, *byte, byte_at(bytes, at + 1));
+            if here.is_some() {
+                return here;
             }
         }
     }
-    Split::Nothing
+    None
 }
 
 // Port of parse_conditional_expression (conditional.rs), as far as its split.
-pub fn split(bytes: &[u8]) -> Split
+#[tactic(auto, unfolding(model::specs::Split::split))]
+pub fn split(bytes: &[u8]) -> Option<Split>
     ensures { result ≡ split bytes.now }
 {
     scan(formula(bytes))
 }
 
 // The part from behind the operator to the end, none without an operator.
+#[tactic(auto, using(crate::proofs::Scanning::drop_twice), unfolding(model::specs::Split::split, model::specs::Split::behind, model::specs::Split::right_part))]
 pub fn right_part(bytes: &[u8]) -> &[u8]
     ensures { result.now ≡ right_part bytes.now }
 {
     let part = formula(bytes);
     match scan(part) {
-        Split::At { op: _, at, width } => from(from(part, at), width),
-        Split::Nothing => &part[..0],
-    }
-}
-
-// The bytes up to a position, all of them past the end.
-fn up_to(bytes: &[u8], end: usize) -> &[u8]
-    ensures { result.now ≡ take end bytes.now }
-{
-    if end <= bytes.len() {
-        &bytes[..end]
-    } else {
-        bytes
+        Some(Split { at, width, .. }) => from(from(part, at), width),
+        None => &part[..0],
     }
 }
 
 // The part up to the operator, none without one.
+#[tactic(auto, unfolding(model::specs::Split::split, model::specs::Split::ahead, model::specs::Split::left_part))]
 pub fn left_part(bytes: &[u8]) -> &[u8]
     ensures { result.now ≡ left_part bytes.now }
 {
     let part = formula(bytes);
     match scan(part) {
-        Split::At {
-            op: _,
-            at,
-            width: _,
-        } => up_to(part, at),
-        Split::Nothing => &part[..0],
+        Some(Split { at, .. }) => up_to(part, at),
+        None => &part[..0],
     }
 }

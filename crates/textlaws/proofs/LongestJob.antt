@@ -1,5 +1,6 @@
 -- A job whose report is the longest: zeros down 1,024 rows, a region on each, ten rules that are deferred, a bar rule with the index 10
 -- that stops every region, and nine bar rules behind it. What it is as it is lent, and its run. Assumes nothing.
+use Rattle.std.specs.Prelude.{None}
 use Prim.Native.Nat.{ℕ, zero, suc, ◌+◌, ◌-◌, ◌≤◌, ◌<◌}
 use native.Mathlib.Omega.{arith}
 use mathlib.Core.Path.{◌≡◌, refl}
@@ -13,7 +14,6 @@ use Rattle.model.specs.declared.Cell.{Cell}
 use Rattle.model.specs.declared.CellCoordinate.{CellCoordinate}
 use Rattle.model.specs.declared.CellValue.{CellValue}
 use Rattle.model.specs.declared.ConditionalComparison.{ConditionalComparison}
-use Rattle.model.specs.declared.Priority.{Priority}
 use Rattle.model.specs.declared.Rgb.{Rgb}
 use Rattle.model.specs.Sheet.{Sheet, CellAt, CellColumns, value_of, cell_from, cells_from, regions_from}
 use Rattle.model.specs.Job as Job
@@ -50,7 +50,7 @@ abbrev rule_line : ℕ → Bool → Kind → RuleLine
 rule_line bottom stop kind =
     record {
       range = record { top = 0; left = 0; bottom = bottom; right = 0 };
-      priority = Priority.Missing;
+      priority = None;
       stop = stop;
       imported = false;
       kind = kind;

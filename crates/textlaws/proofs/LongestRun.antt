@@ -1,5 +1,6 @@
 -- The run of the job in LongestJob.antt: the rule with the index 10 gives every region a bar of 1,000,000 ppm and stops it, the ten
 -- ahead of it are deferred, and the nine behind it are simplified and find all regions stopped. Assumes nothing.
+use Rattle.std.specs.Prelude.{None}
 use Prim.Native.Nat.{ℕ, zero, suc, ◌+◌, ◌≤◌, ◌<◌}
 use native.Mathlib.Omega.{arith}
 use mathlib.Core.Path.{◌≡◌, refl, ap, ◌∙◌}
@@ -15,7 +16,6 @@ use Rattle.model.specs.declared.CfRule.{CfRule}
 use Rattle.model.specs.declared.ConditionalComparison.{ConditionalComparison}
 use Rattle.model.specs.declared.ConditionalOperand.{ConditionalOperand}
 use Rattle.model.specs.declared.Outcome.{Outcome}
-use Rattle.model.specs.declared.Priority.{Priority}
 use Rattle.model.specs.declared.Rule.{Rule}
 use Rattle.model.specs.declared.Test.{Test}
 use Rattle.model.specs.Sheet.{cell_at, same_coordinate, in_range}
@@ -35,7 +35,7 @@ abbrev rule_of : ℕ → Bool → CfRule → Rule
 rule_of bottom stop kind =
     record {
       range = record { top = 0; left = 0; bottom = bottom; right = 0 };
-      priority = Priority.Missing;
+      priority = None;
       stop = stop;
       imported = false;
       kind = kind;

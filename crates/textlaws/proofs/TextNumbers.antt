@@ -1,5 +1,7 @@
 -- The numbers that a text can come to: never 1, 5 or 6, and no 2 for one that is accepted as a job. The early 2 is the call's own.
 -- Assumes nothing.
+use Rattle.charging.specs.declared.ChargeError.{ChargeError}
+use Rattle.std.specs.Prelude.{Ok, Err}
 use Prim.Native.Nat.{ℕ, suc, ◌+◌, ◌≤◌}
 use native.Mathlib.Omega.{arith}
 use mathlib.Core.Path.{◌≡◌, refl, ap, ◌∙◌}
@@ -11,7 +13,7 @@ use lib.Dec.{leb}
 use lib.ListN.{length, length-append, length-map}
 use borrow.Author.Tests.{le-ltb, eq-eqb}
 use types.Run.{OneOf, hit}
-use Rattle.charging.specs.declared.Charged.{Charged}
+use Rattle.charging.specs.Charge.{Charged}
 use Rattle.charging.specs.Charge.{spend}
 use Rattle.model.specs.Comparison.{uses_second}
 use Rattle.model.specs.Run.{Run}
@@ -209,9 +211,9 @@ limited_among limit start space r = go (spend limit start r.charges)
     fitting false n = hit job_numbers 9 tt
 
     go : (c : Charged) → OneOf job_numbers (settled space r c).summary.number
-    go (Charged.Within c) = fitting (leb (length r.marks) space) c.count
-    go (Charged.LimitExceeded c actual) = hit job_numbers 7 tt
-    go (Charged.CoordinateOverflow c) = hit job_numbers 8 tt
+    go (Ok c) = fitting (leb (length r.marks) space) c.count
+    go (Err (ChargeError.LimitExceeded c actual)) = hit job_numbers 7 tt
+    go (Err (ChargeError.CoordinateOverflow c)) = hit job_numbers 8 tt
 
 module _ (j : JobText) (r : Readable j) where
   -- the checks refuse it with 3 or 4 alone

@@ -1,24 +1,22 @@
 -- The call as its steps leave it: refused by a check, or the rules settled, it has the answer and the columns of the definition.
 -- Assumes nothing.
+use Rattle.std.specs.Prelude.{Ok, Err}
 use Prim.Native.Nat.{ℕ, min}
 use mathlib.Core.Path.{◌≡◌, refl, sym, ap, subst, ◌∙◌}
 use mathlib.Core.Bool.{Bool}
-use mathlib.Core.List.{List, [], ◌∷◌}
+use mathlib.Core.List.{List}
 use mathlib.Core.Option.{Option, none}
 use lib.ListN.{replicate}
 use lib.Ieee.{Float}
-use types.Run.{OneOf, miss}
-use denote.Enum.Declared.{tag_of}
-use Rattle.model.specs.declared.Answer.{Answer}
+use Rattle.model.specs.declared.Refusal.{Refusal}
+use Rattle.model.specs.Options.{Answer}
 use Rattle.model.specs.Ratio.{zero_f}
 use Rattle.model.specs.Answer.{Summary, Result, refused, summary, limited}
 use Rattle.model.specs.Job.{Job, Lengths, mark_space, run_of, or_else, result}
 use Rattle.model.specs.Columns.{Columns, written, columns_of}
 use Rattle.laws.specs.Demands.{zeros}
 use Rattle.laws.proofs.DemandOne.{written_none}
-use Rattle.checks.specs.contracts.Checked.{the_type}
-use Rattle.checks.specs.declared.Checked.{Checked}
-use Rattle.checks.specs.Checked.{turned_back, space_of, refusal_of}
+use Rattle.checks.specs.Checked.{Checked, turned_back, space_of, refusal_of}
 use Rattle.checks.proofs.Refusing.{result_refused, refusal_space}
 use Rattle.turns.specs.Emit.{MarkColumns, mark_columns, BarColumns, bar_columns}
 use Rattle.turns.specs.Turns.{Left, left_by, sheet_in, run_in}
@@ -27,10 +25,9 @@ use Rattle.turns.specs.Lent.{lent}
 use Rattle.turns.proofs.Checked.{Fine, checked_fine}
 use Rattle.turns.proofs.Settling.{clear_marks, clear_bars, ended, Long, kept_by, settled_as_lem, columns_as}
 
--- the tag of `Fine`
-not_refused : (c : Checked) → OneOf (0 ∷ []) (tag_of the_type c) → turned_back c ≡ none
-not_refused Checked.Fine h = refl
-not_refused (Checked.Refused a) h = absurd (miss (0 ∷ []) 1 tt h)
+not_refused : (c : Checked) → ((r : Refusal) → c ≡ Err r → ⊥) → turned_back c ≡ none
+not_refused (Ok done) h = refl
+not_refused (Err r) h = absurd (h r refl)
 
 pub lent_same : {a b c d e f g h a' b' c' d' e' f' g' h' : List ℕ} {s s' : List Float} → a ≡ a' → b ≡ b' → c ≡ c' → d ≡ d' → e ≡ e'
     → f ≡ f' → g ≡ g' → h ≡ h' → s ≡ s' → lent a b c d e f g h s ≡ lent a' b' c' d' e' f' g' h' s'
@@ -68,19 +65,19 @@ module _ (j : Job) (limit : ℕ) (l : Lengths) where
     checked_as = is ∙ (λ i. refusal_of j (space_of (p i) (q i) (r i))) ∙ refusal_space j l
 
     -- a check that is met
-    pub answers_refused : (a : Answer) (c : Columns) → checked ≡ Checked.Refused a → c ≡ zeros l → Answers a c
-    unfolding refused columns_of
-    answers_refused a c e z =
+    pub answers_refused : (r : Refusal) (c : Columns) → checked ≡ Err r → c ≡ zeros l → Answers (Err r) c
+    unfolding refused columns_of summary
+    answers_refused r c e z =
         let met = sym checked_as ∙ ap turned_back e in
         let same = result_refused j l limit ∙ ap (λ (o : Option Summary). or_else o (limited limit j.start (mark_space l)
         (run_of j))) met in
         record {
           answer = sym (ap (λ (x : Result). x.summary) same);
-          columns = z ∙ sym (written_none (summary a) l) ∙ sym (ap (λ (x : Result). written x l) same);
+          columns = z ∙ sym (written_none (summary (Err r)) l) ∙ sym (ap (λ (x : Result). written x l) same);
         }
 
     -- no check is met
-    pub fine : OneOf (0 ∷ []) (tag_of the_type checked) → refusal_of j l ≡ none
+    pub fine : ((r : Refusal) → checked ≡ Err r → ⊥) → refusal_of j l ≡ none
     fine h = sym checked_as ∙ not_refused checked h
 
   -- the rules from cleared columns

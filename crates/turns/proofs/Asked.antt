@@ -1,4 +1,5 @@
 -- A rule asks the regions that are not stopped: all of them, or those up to the first that leaves it unresolved. Assumes nothing.
+use Rattle.std.specs.Prelude.{Some, None}
 use Prim.Native.Nat.{ℕ, zero, suc, ◌+◌, ◌-◌, ◌≤◌, ◌<◌}
 use native.Mathlib.Omega.{arith}
 use mathlib.Core.Path.{◌≡◌, refl, sym, ap}
@@ -9,7 +10,7 @@ use lib.Ieee.{Float, le}
 use lib.ListN.{length, get_or}
 use Rattle.model.specs.declared.CellCoordinate.{CellCoordinate}
 use Rattle.model.specs.declared.Outcome.{Outcome}
-use Rattle.model.specs.declared.Reading.{Reading}
+use Rattle.model.specs.Options.{Reading}
 use Rattle.model.specs.declared.Rgb.{Rgb}
 use Rattle.model.specs.declared.Rule.{Rule}
 use Rattle.model.specs.declared.Test.{Test}
@@ -48,19 +49,19 @@ filled_if_said false imported fill = refl
 
 value_said : (x : Reading) (say : Float → Outcome) → ((v : Float) → Said (say v)) → Said (on_value x say)
 unfolding on_value
-value_said (Reading.Number v) say h = h v
-value_said Reading.Nothing say h = refl
+value_said (Some v) say h = h v
+value_said None say h = refl
 
 operand_said : (x : Reading) (say : Float → Outcome) → ((v : Float) → Said (say v)) → Said (on_operand x say)
 unfolding on_operand
-operand_said (Reading.Number v) say h = h v
-operand_said Reading.Nothing say h = refl
+operand_said (Some v) say h = h v
+operand_said None say h = refl
 
 second_said : (used : Bool) (y : Reading) (say : Reading → Outcome) → ((z : Reading) → Said (say z)) → Said (on_second used y say)
 unfolding on_second
-second_said true (Reading.Number v) say h = h (Reading.Number v)
-second_said true Reading.Nothing say h = refl
-second_said false y say h = h Reading.Nothing
+second_said true (Some v) say h = h (Some v)
+second_said true None say h = refl
+second_said false y say h = h None
 
 verdict_said : (s : Sheet) (r : Rule) (at : CellCoordinate) (t : Test) → Said (verdict s r at t)
 unfolding verdict scaled barred

@@ -1,19 +1,13 @@
 -- What a rule charges ahead of its regions, by the tests that the code makes; charges after those that were refused; and charges in two
 -- parts, one after the other. Assumes nothing.
+use Rattle.std.specs.Prelude.{Ok, Err}
 use Prim.Native.Nat.{ℕ}
-use native.Mathlib.Omega.{arith}
 use mathlib.Core.Path.{◌≡◌, refl, sym}
 use mathlib.Core.Bool.{true, false, ◌&&◌, false≢true}
 use mathlib.Core.List.{List, [], ◌∷◌, ◌++◌}
 use lib.ListN.{length, replicate}
-use types.Run.{OneOf, miss}
-use denote.Enum.Declared.{tag_of}
-use Rattle.charging.specs.contracts.Charged as Charged-type
-use Rattle.model.specs.contracts.CfRule as CfRule-type
-use Rattle.charging.specs.declared.Charged.{Charged}
 use Rattle.charging.specs.declared.Counter.{Counter}
-use Rattle.charging.specs.Charge.{Charge, one, counter, charge, and_then, spend}
-use Rattle.charging.specs.Charge as Charge
+use Rattle.charging.specs.Charge.{Charged, Charge, one, counter, charge, and_then, spend}
 use Rattle.model.specs.declared.CfRule.{CfRule}
 use Rattle.model.specs.declared.Range.{Range}
 use Rattle.model.specs.declared.Rule.{Rule}
@@ -24,18 +18,16 @@ use Rattle.plans.specs.Plans.{takes_values}
 
 -- ---- one charge after another
 
-and_nothing : (r : Charged) → and_then r (λ c. Charged.Within (counter c)) ≡ r
+and_nothing : (r : Charged) → and_then r (λ c. Ok (counter c)) ≡ r
 unfolding and_then
-and_nothing (Charged.Within c) = refl
-and_nothing (Charged.LimitExceeded c actual) = refl
-and_nothing (Charged.CoordinateOverflow c) = refl
+and_nothing (Ok c) = refl
+and_nothing (Err e) = refl
 
 -- where f is g and then h from any count, it is so after charges that came to r
 and_then_twice : (r : Charged) (f g h : ℕ → Charged) → ((c : ℕ) → f c ≡ and_then (g c) h) → and_then r f ≡ and_then (and_then r g) h
 unfolding and_then
-and_then_twice (Charged.Within c) f g h e = e c.count
-and_then_twice (Charged.LimitExceeded c actual) f g h e = refl
-and_then_twice (Charged.CoordinateOverflow c) f g h e = refl
+and_then_twice (Ok c) f g h e = e c.count
+and_then_twice (Err r) f g h e = refl
 
 spend_append : (limit c : ℕ) (a b : List Charge) → spend limit c (a ++ b) ≡ and_then (spend limit c a) (λ d. spend limit d b)
 unfolding spend and_then
@@ -48,23 +40,6 @@ pub spend_in_two : (limit : ℕ) (r : Charged) (a b : List Charge)
     → and_then r (λ c. spend limit c (a ++ b)) ≡ and_then (and_then r (λ c. spend limit c a)) (λ d. spend limit d b)
 spend_in_two limit r a b =
     and_then_twice r (λ c. spend limit c (a ++ b)) (λ c. spend limit c a) (λ d. spend limit d b) (λ c. spend_append limit c a b)
-
--- ---- refusals
-
--- besides `Within`, in the order of `Charged`
-abbrev pub refusals : List ℕ
-refusals = 1 ∷ 2 ∷ []
-
-pub refused_after : (r : Charged) → OneOf refusals (tag_of Charged-type.the_type r) → (next : ℕ → Charged) → r ≡ and_then r next
-unfolding and_then
-refused_after (Charged.Within c) h next = absurd (miss refusals 0 tt h)
-refused_after (Charged.LimitExceeded c actual) h next = refl
-refused_after (Charged.CoordinateOverflow c) h next = refl
-
-pub refused_not_within : (r : Charged) → OneOf refusals (tag_of Charged-type.the_type r) → (c : Counter) → r ≡ Charged.Within c → ⊥
-refused_not_within (Charged.Within n) h c e = miss refusals 0 tt h
-refused_not_within (Charged.LimitExceeded n actual) h c e = let no : ◌≡◌ {A = ℕ} 0 1 = cc in omega arith
-refused_not_within (Charged.CoordinateOverflow n) h c e = let no : ◌≡◌ {A = ℕ} 0 1 = cc in omega arith
 
 -- ---- ahead of the regions
 
@@ -111,7 +86,7 @@ module _ (s : Sheet) (r : Rule) (limit : ℕ) (n : Counter) where
   abbrev spent_ahead : Charged
   spent_ahead = spend limit n.count (ahead s r)
 
-  pub ahead_inverted : upright r.range ≡ false → Charged.Within n ≡ spent_ahead
+  pub ahead_inverted : upright r.range ≡ false → Ok n ≡ spent_ahead
   unfolding ahead spend
   ahead_inverted u = rw u
 
@@ -127,6 +102,6 @@ module _ (s : Sheet) (r : Rule) (limit : ℕ) (n : Counter) where
     ahead_area h = rw (u, ahead_of_area s r.range r.kind h) (sym (and_nothing _))
 
     pub ahead_none : takes_values r.kind ≡ false → (is_duplicates r.kind && within_grid r.range) ≡ false
-        → Charged.Within n ≡ spent_ahead
+        → Ok n ≡ spent_ahead
     unfolding ahead spend
     ahead_none v h = rw (u, ahead_of_none s r.range r.kind v h)

@@ -1,5 +1,6 @@
 -- What is known of the regions says what the sheet says: each column is looked at as far as the test needs it. And a number goes into a
 -- column and back as it is, since a reading is finite or there is none. Assumes nothing.
+use Rattle.std.specs.Prelude.{Some, None}
 use Prim.Native.Nat.{ℕ, zero, suc, ◌+◌, ◌*◌, ◌≤◌, ◌<◌}
 use mathlib.Core.Path.{◌≡◌, refl}
 use mathlib.Core.Bool.{Bool, true, false, cond, not}
@@ -16,8 +17,7 @@ use Rattle.model.specs.declared.CellValue.{CellValue}
 use Rattle.model.specs.declared.ConditionalOperand.{ConditionalOperand}
 use Rattle.model.specs.declared.Outcome.{Outcome}
 use Rattle.model.specs.declared.Range.{Range}
-use Rattle.model.specs.declared.Reading.{Reading}
-use Rattle.model.specs.declared.Referenced.{Referenced}
+use Rattle.model.specs.Options.{Reading, Referenced}
 use Rattle.model.specs.declared.Rule.{Rule}
 use Rattle.model.specs.declared.Test.{Test}
 use Rattle.model.specs.Sheet.{Sheet, CellAt, cell_at, in_range}
@@ -37,7 +37,7 @@ use Rattle.turns.proofs.Bands.{within_band}
 
 -- ---- a reading as a float and back
 
-pub reading_back : (x : Float) → finite x ≡ true → reading_of x ≡ Reading.Number x
+pub reading_back : (x : Float) → finite x ≡ true → reading_of x ≡ Some x
 unfolding reading_of finite eq
 reading_back nan h = cc
 reading_back (inf s) h = cc
@@ -48,11 +48,11 @@ abbrev Back : Reading → Type 0
 Back v = reading_of (as_float v) ≡ v
 
 -- a number that is taken only if it is finite
-finite_back : (x : Float) → Back (cond (finite x) (Reading.Number x) Reading.Nothing)
+finite_back : (x : Float) → Back (cond (finite x) (Some x) None)
 unfolding reading_of as_float eq
 finite_back x = go _ refl
   where
-    go : (whole : Bool) → finite x ≡ whole → Back (cond whole (Reading.Number x) Reading.Nothing)
+    go : (whole : Bool) → finite x ≡ whole → Back (cond whole (Some x) None)
     go true e = reading_back x e
     go false e = refl
 
@@ -60,7 +60,7 @@ pub literal_back : (x : Float) → Back (literal x)
 unfolding literal
 literal_back x = finite_back x
 
-nothing_back : Back Reading.Nothing
+nothing_back : Back None
 unfolding reading_of as_float eq
 nothing_back = refl
 
@@ -76,7 +76,7 @@ pub numeric_back : (c : Cell) → Back (numeric_cell_value c)
 unfolding numeric_cell_value
 numeric_back c = go (leb c.wraps max_wraps)
   where
-    go : (read : Bool) → Back (cond read (numeric_value c.value) Reading.Nothing)
+    go : (read : Bool) → Back (cond read (numeric_value c.value) None)
     go true = value_back c.value
     go false = nothing_back
 
@@ -90,8 +90,8 @@ numeric_at_back cells at = numeric_of_back (cell_at cells at)
 
 referenced_back : (s : Sheet) (at : Referenced) → Back (numeric_referenced s at)
 unfolding numeric_referenced
-referenced_back s (Referenced.At at) = numeric_at_back s.cells at
-referenced_back s Referenced.Nowhere = nothing_back
+referenced_back s (Some at) = numeric_at_back s.cells at
+referenced_back s None = nothing_back
 
 pub resolved_back : (s : Sheet) (range : Range) (at : CellCoordinate) (o : ConditionalOperand) → Back (resolved s range at o)
 unfolding resolved

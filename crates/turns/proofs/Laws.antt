@@ -1,13 +1,14 @@
 -- The rules in turn come to the definition's run: what they charge, and, where all charges are accepted, their counts, the marks and the
 -- bars. Once a charge is refused it stays refused. Assumes nothing.
+use Rattle.charging.specs.declared.ChargeError.{ChargeError}
+use Rattle.std.specs.Prelude.{Ok, Err}
 use Prim.Native.Nat.{ℕ, ◌+◌, ◌≤◌}
 use native.Mathlib.Omega.{arith}
 use mathlib.Core.Path.{◌≡◌, refl, sym, ap, ◌∙◌}
 use mathlib.Core.List.{List, [], ◌∷◌}
 use lib.ListN.{length, length-append}
 use Rattle.charging.specs.declared.Counter.{Counter}
-use Rattle.charging.specs.declared.Charged.{Charged}
-use Rattle.charging.specs.Charge.{and_then, spend}
+use Rattle.charging.specs.Charge.{Charged, and_then, spend}
 use Rattle.model.specs.declared.Rule.{Rule}
 use Rattle.model.specs.Sheet.{Sheet}
 use Rattle.model.specs.Run.{Mark, RegionState, Run, IndexedRule, unmarked, step, followed_by, run_from}
@@ -38,16 +39,13 @@ pub record Written (a b : ℕ) (r : Run) (st last : State) : Type 0 where
 
 pub record Carried (limit a b : ℕ) (r : Run) (st last : State) : Type 0 where
   pub charged : last.ran.charged ≡ and_then st.ran.charged (λ c. spend limit c r.charges)
-  pub written : (c : Counter) → last.ran.charged ≡ Charged.Within c → Written a b r st last
+  pub written : (c : Counter) → last.ran.charged ≡ Ok c → Written a b r st last
 
 -- what is said of each rule is the definition's, and nothing more once a charge was refused
 pub record Saying (s : Sheet) (limit n : ℕ) (say : Rule → Charged → List ℕ → Step) : Type 0 where
   pub steps : (i : IndexedRule) (states : List RegionState) (charged : Charged) (flags : List ℕ) → StoppedBy flags 0 n states
       → Stepped s i states limit charged (say i.rule charged flags)
-  pub exceeded : (r : Rule) (c : Counter) (actual : ℕ) (flags : List ℕ)
-      → (say r (Charged.LimitExceeded c actual) flags).charged ≡ Charged.LimitExceeded c actual
-  pub overflowed : (r : Rule) (c : Counter) (flags : List ℕ)
-      → (say r (Charged.CoordinateOverflow c) flags).charged ≡ Charged.CoordinateOverflow c
+  pub refused : (r : Rule) (e : ChargeError) (flags : List ℕ) → (say r (Err e) flags).charged ≡ Err e
 
 -- ---- one rule
 
@@ -65,40 +63,24 @@ turn_made i said st count flags marks bars c f m b = λ k. state_of (ran_after s
 
 then_none : (limit : ℕ) (x : Charged) → x ≡ and_then x (λ c. spend limit c [])
 unfolding and_then spend
-then_none limit (Charged.Within c) = refl
-then_none limit (Charged.LimitExceeded c actual) = refl
-then_none limit (Charged.CoordinateOverflow c) = refl
+then_none limit (Ok c) = refl
+then_none limit (Err e) = refl
 
-exceeded_then : (x : Charged) (c : Counter) (actual : ℕ) (f : ℕ → Charged) → x ≡ Charged.LimitExceeded c actual
-    → Charged.LimitExceeded c actual ≡ and_then x f
+refused_then : (x : Charged) (e : ChargeError) (f : ℕ → Charged) → x ≡ Err e → Err e ≡ and_then x f
 unfolding and_then
-exceeded_then x c actual f e = rw e
-
-overflowed_then : (x : Charged) (c : Counter) (f : ℕ → Charged) → x ≡ Charged.CoordinateOverflow c → Charged.CoordinateOverflow c
-    ≡ and_then x f
-unfolding and_then
-overflowed_then x c f e = rw e
+refused_then x e f is = rw is
 
 put_none : (c : MarkColumns) (n : ℕ) → c ≡ put_marks c n []
 unfolding put_marks
 put_none c n = refl
 
 module _ (s : Sheet) (limit n a b : ℕ) (say : Rule → Charged → List ℕ → Step) (saying : Saying s limit n say) where
-  exceeded_stays : (is : List IndexedRule) (st : State) (c : Counter) (actual : ℕ) → st.ran.charged ≡ Charged.LimitExceeded c actual
-      → (turns say is st).ran.charged ≡ Charged.LimitExceeded c actual
+  refused_stays : (is : List IndexedRule) (st : State) (e : ChargeError) → st.ran.charged ≡ Err e
+      → (turns say is st).ran.charged ≡ Err e
   unfolding turns turn
-  exceeded_stays [] st c actual h = h
-  exceeded_stays (i ∷ is) st c actual h =
-      exceeded_stays is (turn i (say i.rule st.ran.charged st.flags) st) c actual
-      (rw h (saying.exceeded i.rule c actual st.flags))
-
-  overflowed_stays : (is : List IndexedRule) (st : State) (c : Counter) → st.ran.charged ≡ Charged.CoordinateOverflow c
-      → (turns say is st).ran.charged ≡ Charged.CoordinateOverflow c
-  unfolding turns turn
-  overflowed_stays [] st c h = h
-  overflowed_stays (i ∷ is) st c h =
-      overflowed_stays is (turn i (say i.rule st.ran.charged st.flags) st) c
-      (rw h (saying.overflowed i.rule c st.flags))
+  refused_stays [] st e h = h
+  refused_stays (i ∷ is) st e h =
+      refused_stays is (turn i (say i.rule st.ran.charged st.flags) st) e (rw h (saying.refused i.rule e st.flags))
 
   module _ (i : IndexedRule) (states : List RegionState) (st : State) (r : Step) (h : Held n a b states st) (y : Says s i states r) where
     -- the rule's own marks, counts and bars
@@ -171,7 +153,7 @@ module _ (s : Sheet) (limit n a b : ℕ) (say : Rule → Charged → List ℕ �
     carried_next later = go said.charged refl
       where
         go : (x : Charged) → said.charged ≡ x → Carried limit a b (followed_by first (run_from s is first.states)) st (turns say is next)
-        go (Charged.Within c) e =
+        go (Ok c) e =
             let y = stepped.says c e in
             let l = later (turn_held i states st said h y p q) in
             record {
@@ -179,16 +161,10 @@ module _ (s : Sheet) (limit n a b : ℕ) (say : Rule → Charged → List ℕ �
               written = λ d f. written_next first (run_from s is first.states) st next (turns say is next)
                   (turn_written i states st said h y p q) (l.written d f);
             }
-        go (Charged.LimitExceeded c actual) e =
-            let last = exceeded_stays is next c actual e in
+        go (Err error) e =
+            let last = refused_stays is next error e in
             record {
-              charged = charged_next (run_from s is first.states) _ (last ∙ exceeded_then said.charged c actual _ e);
-              written = λ d f. absurd (let no : ◌≡◌ {A = ℕ} 0 1 = cc (sym last ∙ f) in omega arith);
-            }
-        go (Charged.CoordinateOverflow c) e =
-            let last = overflowed_stays is next c e in
-            record {
-              charged = charged_next (run_from s is first.states) _ (last ∙ overflowed_then said.charged c _ e);
+              charged = charged_next (run_from s is first.states) _ (last ∙ refused_then said.charged error _ e);
               written = λ d f. absurd (let no : ◌≡◌ {A = ℕ} 0 1 = cc (sym last ∙ f) in omega arith);
             }
 

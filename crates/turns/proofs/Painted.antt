@@ -1,5 +1,6 @@
 -- The marks, the bars and the stop flags of outcomes are those of the regions that they paint, each mark by the test and the number of
 -- the region's cell. Assumes nothing.
+use Rattle.std.specs.Prelude.{Some, None}
 use Prim.Native.Nat.{ℕ, zero, suc, ◌+◌, ◌≤◌, ◌<◌}
 use mathlib.Core.Path.{◌≡◌, refl}
 use mathlib.Core.Bool.{Bool, true, false, cond, not, ◌&&◌}
@@ -12,7 +13,7 @@ use lib.ListN.{length, get_or, set}
 use Rattle.model.specs.declared.Normalized.{Normalized}
 use Rattle.model.specs.declared.Outcome.{Outcome}
 use Rattle.model.specs.declared.Paint.{Paint}
-use Rattle.model.specs.declared.Reading.{Reading}
+use Rattle.model.specs.Options.{Reading}
 use Rattle.model.specs.declared.Rgb.{Rgb}
 use Rattle.model.specs.declared.Rule.{Rule}
 use Rattle.model.specs.declared.Test.{Test}
@@ -74,21 +75,21 @@ value_only : {p : Paint} (x : Float) (say : Float → Outcome) → Only p (say x
 unfolding reading_of on_value
 value_only {p} x say only = go (eq x x)
   where
-    go : (number : Bool) → Only p (on_value (cond number (Reading.Number x) Reading.Nothing) say)
+    go : (number : Bool) → Only p (on_value (cond number (Some x) None) say)
     go true = only
     go false = passed_only
 
 operand_only : {p : Paint} (v : Reading) (say : Float → Outcome) → ((x : Float) → Only p (say x)) → Only p (on_operand v say)
 unfolding on_operand
-operand_only (Reading.Number x) say only = only x
-operand_only Reading.Nothing say only = unresolved_only
+operand_only (Some x) say only = only x
+operand_only None say only = unresolved_only
 
 second_only : {p : Paint} (uses : Bool) (v : Reading) (say : Reading → Outcome) → ((w : Reading) → Only p (say w))
     → Only p (on_second uses v say)
 unfolding on_second
-second_only true (Reading.Number y) say only = only (Reading.Number y)
-second_only true Reading.Nothing say only = unresolved_only
-second_only false v say only = only Reading.Nothing
+second_only true (Some y) say only = only (Some y)
+second_only true None say only = unresolved_only
+second_only false v say only = only None
 
 verdict_only : (t : Test) (imported : Bool) (x : Float) (a b : Reading) (found : ℕ)
     → Only (paint_by t imported x) (verdict_on t imported (reading_of x) a b found)

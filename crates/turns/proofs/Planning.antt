@@ -1,5 +1,6 @@
 -- The values of a range have room where there is room for a value of each cell, and are the front of a page of them; what a rule by
 -- operands comes to; and tests that are not of a bar. Assumes nothing.
+use Rattle.std.specs.Prelude.{Some, None}
 use Prim.Native.Nat.{ℕ, suc, ◌≤◌}
 use native.Mathlib.Omega.{arith}
 use mathlib.Core.Path.{◌≡◌, refl, sym, ap, ◌∙◌}
@@ -16,7 +17,7 @@ use Rattle.model.specs.contracts.CfRule as CfRule-type
 use Rattle.model.specs.contracts.Test as Test-type
 use Rattle.model.specs.declared.CfRule.{CfRule}
 use Rattle.model.specs.declared.Range.{Range}
-use Rattle.model.specs.declared.Reading.{Reading}
+use Rattle.model.specs.Options.{Reading}
 use Rattle.model.specs.declared.Test.{Test}
 use Rattle.model.specs.Ratio.{zero_f}
 use Rattle.model.specs.Sheet.{Sheet, CellAt, CellColumns, in_range}
@@ -30,8 +31,8 @@ use Rattle.turns.proofs.Charges.{without_keys}
 -- ---- the values of a range
 
 number_few : (x : Reading) (xs : List Float) → length (with_number x xs) ≤ suc (length xs)
-number_few (Reading.Number x) xs = omega arith
-number_few Reading.Nothing xs = omega arith
+number_few (Some x) xs = omega arith
+number_few None xs = omega arith
 
 numbers_few : (cs : List CellAt) → length (numbers cs) ≤ length cs
 unfolding numbers

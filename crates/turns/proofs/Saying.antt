@@ -3,13 +3,13 @@
 use Prim.Native.Nat.{ℕ, ◌≤◌}
 use mathlib.Core.Path.{◌≡◌, refl, ap}
 use mathlib.Core.List.{List}
-use Rattle.charging.specs.declared.Charged.{Charged}
+use Rattle.charging.specs.Charge.{Charged}
 use Rattle.model.specs.declared.Rule.{Rule}
 use Rattle.model.specs.Sheet.{Sheet}
 use Rattle.model.specs.Job.{Job, region_count}
 use Rattle.turns.specs.Step.{Step, step_of}
 use Rattle.turns.specs.Turns.{sheet_in, say_in}
-use Rattle.turns.proofs.Stepping.{step_stepped, step_once, step_exceeded, step_overflowed}
+use Rattle.turns.proofs.Stepping.{step_stepped, step_once, step_refused}
 use Rattle.turns.proofs.Laws.{Saying}
 
 -- a rule counts once
@@ -30,8 +30,5 @@ says_in j limit =
     record {
       steps = λ i states charged flags h.
           step_stepped s i j.region_rows j.region_cols flags refl states h limit charged;
-      exceeded = λ r c actual flags.
-          ap (λ (x : Step). x.charged) (step_exceeded s r limit j.region_rows j.region_cols flags c actual);
-      overflowed = λ r c flags.
-          ap (λ (x : Step). x.charged) (step_overflowed s r limit j.region_rows j.region_cols flags c);
+      refused = λ r e flags. ap (λ (x : Step). x.charged) (step_refused s r limit j.region_rows j.region_cols flags e);
     }

@@ -1,5 +1,7 @@
 -- The rules in turn over cleared columns, settled, are the definition's result: its answer, and its columns, which are kept only if the
 -- job is answered. Assumes nothing.
+use Rattle.charging.specs.declared.ChargeError.{ChargeError}
+use Rattle.std.specs.Prelude.{Ok, Err}
 use Prim.Native.Nat.{ℕ, ◌≤◌}
 use native.Mathlib.Omega.{arith}
 use mathlib.Core.Path.{◌≡◌, refl, sym, ap, subst, ◌∙◌}
@@ -8,8 +10,7 @@ use lib.Dec.{leb, eqb}
 use lib.ListN.{length, replicate, length-replicate}
 use borrow.Author.Tests.{leb-true}
 use Rattle.charging.specs.declared.Counter.{Counter}
-use Rattle.charging.specs.declared.Charged.{Charged}
-use Rattle.charging.specs.Charge.{and_then, spend}
+use Rattle.charging.specs.Charge.{Charged, and_then, spend}
 use Rattle.model.specs.Ratio.{zero_f}
 use Rattle.model.specs.Run.{Run, RegionState, untouched, run, run_from, ordered}
 use Rattle.model.specs.Answer.{Summary, Result, refusal, refused, answer, answered, settled, limited}
@@ -41,15 +42,15 @@ cond_summary : (b : Bool) (x y : Result) → cond b x.summary y.summary ≡ (con
 cond_summary true x y = refl
 cond_summary false x y = refl
 
-settled_by_lem : (space : ℕ) (r : Run) (ran : Ran) (x : Charged) → ((c : Counter) → x ≡ Charged.Within c → Counts r ran)
+settled_by_lem : (space : ℕ) (r : Run) (ran : Ran) (x : Charged) → ((c : Counter) → x ≡ Ok c → Counts r ran)
     → settled_by space ran.marks ran.deferred ran.simplified x ≡ (settled space r x).summary
 unfolding settled answered refused
-settled_by_lem space r ran (Charged.Within c) h =
+settled_by_lem space r ran (Ok c) h =
     let k = h c refl in
     rw (k.marks, k.deferred, k.simplified)
     (cond_summary (leb (length r.marks) space) (answered c.count r) (refused (refusal 9 0 c.count (length r.marks))))
-settled_by_lem space r ran (Charged.LimitExceeded c actual) h = refl
-settled_by_lem space r ran (Charged.CoordinateOverflow c) h = refl
+settled_by_lem space r ran (Err (ChargeError.LimitExceeded c actual)) h = refl
+settled_by_lem space r ran (Err (ChargeError.CoordinateOverflow c)) h = refl
 
 -- ---- the columns
 
@@ -120,10 +121,10 @@ kept_whole l e r n f h =
       scratch = replicate l.scratch zero_f;
     }
 
-kept_by_lem : (l : Lengths) (e : Left) (r : Run) (x : Charged) → Long l e → ((c : Counter) → x ≡ Charged.Within c → Filled l r e)
+kept_by_lem : (l : Lengths) (e : Left) (r : Run) (x : Charged) → Long l e → ((c : Counter) → x ≡ Ok c → Filled l r e)
     → kept_by (eqb (settled (mark_space l) r x).summary.number 0) l e ≡ written (settled (mark_space l) r x) l
 unfolding settled answered answer refused refusal
-kept_by_lem l e r (Charged.Within c) long h = go (leb (length r.marks) (mark_space l)) refl
+kept_by_lem l e r (Ok c) long h = go (leb (length r.marks) (mark_space l)) refl
   where
     by : Bool → Result
     by b = cond b (answered c.count r) (refused (refusal 9 0 c.count (length r.marks)))
@@ -131,8 +132,8 @@ kept_by_lem l e r (Charged.Within c) long h = go (leb (length r.marks) (mark_spa
     go : (b : Bool) → leb (length r.marks) (mark_space l) ≡ b → kept_by (eqb (by b).summary.number 0) l e ≡ written (by b) l
     go true fits = kept_whole l e r c.count (h c refl) (leb-true _ _ fits)
     go false over = kept_none l e long ∙ sym (written_none (refusal 9 0 c.count (length r.marks)) l)
-kept_by_lem l e r (Charged.LimitExceeded c actual) long h = kept_none l e long ∙ sym (written_none (refusal 7 0 c.count actual) l)
-kept_by_lem l e r (Charged.CoordinateOverflow c) long h = kept_none l e long ∙ sym (written_none (refusal 8 0 c.count 0) l)
+kept_by_lem l e r (Err (ChargeError.LimitExceeded c actual)) long h = kept_none l e long ∙ sym (written_none (refusal 7 0 c.count actual) l)
+kept_by_lem l e r (Err (ChargeError.CoordinateOverflow c)) long h = kept_none l e long ∙ sym (written_none (refusal 8 0 c.count 0) l)
 
 -- ---- the job
 
@@ -169,12 +170,12 @@ module _ (j : Job) (limit : ℕ) (l : Lengths) (f : Fine j l) where
   unfolding and_then
   spent = carried.charged
 
-  counts : (c : Counter) → ended.ran.charged ≡ Charged.Within c → Counts (run_of j) ended.ran
+  counts : (c : Counter) → ended.ran.charged ≡ Ok c → Counts (run_of j) ended.ran
   counts c e =
       let w = carried.written c e in
       record { marks = omega (arith, w.count); deferred = omega (arith, w.deferred); simplified = omega (arith, w.simplified) }
 
-  filled : (c : Counter) → ended.ran.charged ≡ Charged.Within c → Filled l (run_of j) (left_by ended)
+  filled : (c : Counter) → ended.ran.charged ≡ Ok c → Filled l (run_of j) (left_by ended)
   filled c e = let w = carried.written c e in record { marks = w.marks; bars = w.bars }
 
   pub settled_as_lem : settled_as (mark_space l) ended.ran ≡ (limited limit j.start (mark_space l) (run_of j)).summary

@@ -1,18 +1,16 @@
 -- What a rule is found to say is the definition's step of the rule: the charges, and where they are accepted the outcomes that give its
 -- marks and the states of the regions, and whether it counts as deferred and as simplified; nothing where a charge is refused. Assumes
 -- nothing.
+use Rattle.charging.specs.declared.ChargeError.{ChargeError}
+use Rattle.std.specs.Prelude.{Ok, Err}
 use Prim.Native.Nat.{ℕ, ◌≤◌}
 use native.Mathlib.Omega.{arith}
 use mathlib.Core.Path.{◌≡◌, refl, sym, ap, ◌∙◌}
 use mathlib.Core.Bool.{Bool, true, false, cond}
 use mathlib.Core.List.{List}
 use lib.ListN.{length, replicate}
-use types.Run.{OneOf, miss}
-use denote.Enum.Declared.{tag_of}
-use Rattle.charging.specs.contracts.Charged.{the_type}
 use Rattle.charging.specs.declared.Counter.{Counter}
-use Rattle.charging.specs.declared.Charged.{Charged}
-use Rattle.charging.specs.Charge.{one, and_then, spend}
+use Rattle.charging.specs.Charge.{Charged, one, and_then, spend}
 use Rattle.model.specs.declared.Plan.{Plan}
 use Rattle.model.specs.declared.Rule.{Rule}
 use Rattle.model.specs.Sheet.{Sheet, regions_from}
@@ -21,7 +19,7 @@ use Rattle.model.specs.Run.{RegionState, IndexedRule, marks_from, all_afterwards
 use Rattle.plans.specs.Plans.{tests_bar}
 use Rattle.plans.proofs.Laws.{simplified_tests_bar}
 use Rattle.turns.specs.Step.{Judged, judged_in, Step, ahead_of_regions, refused_step, said_step, step_from, step_of}
-use Rattle.turns.proofs.Charges.{spend_in_two, refusals, refused_after}
+use Rattle.turns.proofs.Charges.{spend_in_two}
 use Rattle.turns.proofs.Judging.{StoppedBy, Judges, judges}
 
 -- ---- by what the charges came to
@@ -33,24 +31,8 @@ cond_few false = omega arith
 module _ (bar : Bool) (j : Judged) where
   pub said_charged : (x : Charged) → (said_step bar j x).charged ≡ x
   unfolding said_step
-  said_charged (Charged.Within c) = refl
-  said_charged (Charged.LimitExceeded c actual) = refl
-  said_charged (Charged.CoordinateOverflow c) = refl
-
-  pub said_accepted : (x : Charged) (c : Counter) → x ≡ Charged.Within c
-      → record { charged = x; outcomes = j.outcomes; deferred = cond j.unresolved 1 0; simplified = cond bar 1 0 } ≡ said_step bar j x
-  unfolding said_step
-  said_accepted x c e = rw e
-
-  pub said_refused : (x : Charged) → OneOf refusals (tag_of the_type x) → refused_step x ≡ said_step bar j x
-  unfolding said_step
-  said_refused (Charged.Within c) h = absurd (miss refusals 0 tt h)
-  said_refused (Charged.LimitExceeded c actual) h = refl
-  said_refused (Charged.CoordinateOverflow c) h = refl
-
-  -- refused ahead of the regions
-  pub from_refused : (limit : ℕ) (x : Charged) → OneOf refusals (tag_of the_type x) → refused_step x ≡ step_from limit bar j x
-  from_refused limit x h = said_refused x h ∙ ap (said_step bar j) (refused_after x h _)
+  said_charged (Ok c) = refl
+  said_charged (Err e) = refl
 
   pub record Told (r : Step) : Type 0 where
     pub outcomes : r.outcomes ≡ j.outcomes
@@ -58,31 +40,28 @@ module _ (bar : Bool) (j : Judged) where
     pub simplified : r.simplified ≡ cond bar 1 0
 
   -- outcomes are told where all charges are accepted
-  pub said_within : (x : Charged) (c : Counter) → (said_step bar j x).charged ≡ Charged.Within c → Told (said_step bar j x)
+  pub said_within : (x : Charged) (c : Counter) → (said_step bar j x).charged ≡ Ok c → Told (said_step bar j x)
   unfolding said_step
-  said_within (Charged.Within n) c h = record { outcomes = refl; deferred = refl; simplified = refl }
-  said_within (Charged.LimitExceeded n actual) c h = absurd (let no : ◌≡◌ {A = ℕ} 0 1 = cc in omega arith)
-  said_within (Charged.CoordinateOverflow n) c h = absurd (let no : ◌≡◌ {A = ℕ} 0 1 = cc in omega arith)
+  said_within (Ok n) c h = record { outcomes = refl; deferred = refl; simplified = refl }
+  said_within (Err e) c h = absurd (let no : ◌≡◌ {A = ℕ} 0 1 = cc in omega arith)
 
   pub said_once : (x : Charged) → ((said_step bar j x).deferred ≤ 1) × ((said_step bar j x).simplified ≤ 1)
   unfolding said_step
-  said_once (Charged.Within c) = (cond_few j.unresolved, cond_few bar)
-  said_once (Charged.LimitExceeded c actual) = (omega arith, omega arith)
-  said_once (Charged.CoordinateOverflow c) = (omega arith, omega arith)
+  said_once (Ok c) = (cond_few j.unresolved, cond_few bar)
+  said_once (Err e) = (omega arith, omega arith)
 
 -- the plan counts only where the charges ahead of the regions are accepted
-pub by_alike : (limit : ℕ) (judge : Plan → Judged) (p q : Plan) (ch : Charged) → ((c : Counter) → ch ≡ Charged.Within c → p ≡ q)
+pub by_alike : (limit : ℕ) (judge : Plan → Judged) (p q : Plan) (ch : Charged) → ((c : Counter) → ch ≡ Ok c → p ≡ q)
     → step_from limit (tests_bar p) (judge p) ch ≡ step_from limit (tests_bar q) (judge q) ch
 unfolding said_step and_then
-by_alike limit judge p q (Charged.Within c) h = rw (h c refl)
-by_alike limit judge p q (Charged.LimitExceeded c actual) h = refl
-by_alike limit judge p q (Charged.CoordinateOverflow c) h = refl
+by_alike limit judge p q (Ok c) h = rw (h c refl)
+by_alike limit judge p q (Err e) h = refl
 
 -- ---- the rule by its parts
 
 module _ (s : Sheet) (r : Rule) (limit : ℕ) (rows cols flags : List ℕ) where
   pub step_by_parts : (charged ch : Charged) (p : Plan) → ch ≡ ahead_of_regions s r limit charged
-      → ((c : Counter) → ch ≡ Charged.Within c → p ≡ plan s r)
+      → ((c : Counter) → ch ≡ Ok c → p ≡ plan s r)
       → step_from limit (tests_bar p) (judged_in s r rows cols flags p) ch ≡ step_of s r charged limit rows cols flags
   unfolding step_of
   step_by_parts charged ch p is planned =
@@ -95,14 +74,9 @@ module _ (s : Sheet) (r : Rule) (limit : ℕ) (rows cols flags : List ℕ) where
   step_once charged = said_once _ _ _
 
   -- nothing more is said or charged once a charge was refused
-  pub step_exceeded : (c : Counter) (actual : ℕ) → let x = Charged.LimitExceeded c actual in
-      step_of s r x limit rows cols flags ≡ refused_step x
+  pub step_refused : (e : ChargeError) → step_of s r (Err e) limit rows cols flags ≡ refused_step (Err e)
   unfolding step_of said_step and_then
-  step_exceeded c actual = refl
-
-  pub step_overflowed : (c : Counter) → let x = Charged.CoordinateOverflow c in step_of s r x limit rows cols flags ≡ refused_step x
-  unfolding step_of said_step and_then
-  step_overflowed c = refl
+  step_refused e = refl
 
 -- ---- the rule by the definition
 
@@ -117,7 +91,7 @@ pub record Says (s : Sheet) (i : IndexedRule) (given : List RegionState) (r : St
 -- `before` is what the charges so far came to
 pub record Stepped (s : Sheet) (i : IndexedRule) (given : List RegionState) (limit : ℕ) (before : Charged) (r : Step) : Type 0 where
   pub charged : r.charged ≡ and_then before (λ c. spend limit c (step s i given).charges)
-  pub says : (c : Counter) → r.charged ≡ Charged.Within c → Says s i given r
+  pub says : (c : Counter) → r.charged ≡ Ok c → Says s i given r
 
 -- the flags say which regions are stopped
 module _ (s : Sheet) (i : IndexedRule) (rows cols flags : List ℕ) (regions : s.regions ≡ regions_from rows cols 0 (length rows))

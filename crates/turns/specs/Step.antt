@@ -1,8 +1,7 @@
 -- One rule up to its marks, by the columns that hold the regions and their stop flags: what it charges, what it says of each region, and
 -- whether it counts as deferred and as simplified (document 01, 'Rules'). Assumes nothing.
-use Rattle.std.specs.Prelude.{ℕ, zero, suc, Bool, true, false, cond, not, List, [], ◌∷◌, eqb, length, get_or, replicate}
-use Rattle.charging.specs.declared.Charged.{Charged}
-use Rattle.charging.specs.Charge.{one, and_then, spend}
+use Rattle.std.specs.Prelude.{ℕ, zero, suc, Bool, true, false, cond, not, List, [], ◌∷◌, eqb, length, get_or, replicate, Ok, Err}
+use Rattle.charging.specs.Charge.{Charged, one, and_then, spend}
 use Rattle.model.specs.declared.Outcome.{Outcome}
 use Rattle.model.specs.declared.Plan.{Plan}
 use Rattle.model.specs.declared.Rule.{Rule}
@@ -63,15 +62,14 @@ refused_step charged = record { charged = charged; outcomes = []; deferred = 0; 
 
 -- by what all charges came to
 unfoldable pub said_step : Bool → Judged → Charged → Step
-said_step bar judged (Charged.Within c) =
+said_step bar judged (Ok c) =
     record {
-      charged = Charged.Within c;
+      charged = Ok c;
       outcomes = judged.outcomes;
       deferred = cond judged.unresolved 1 0;
       simplified = cond bar 1 0;
     }
-said_step bar judged (Charged.LimitExceeded c actual) = refused_step (Charged.LimitExceeded c actual)
-said_step bar judged (Charged.CoordinateOverflow c) = refused_step (Charged.CoordinateOverflow c)
+said_step bar judged (Err e) = refused_step (Err e)
 
 -- the regions are charged at the count that the charges ahead of them left
 abbrev pub step_from : ℕ → Bool → Judged → Charged → Step

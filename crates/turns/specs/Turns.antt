@@ -1,8 +1,7 @@
 -- The rules one after the other, by what each is found to say: the charges so far, the counts, and what the stop flags, the mark columns
 -- and the bar columns hold. Assumes nothing.
-use Rattle.std.specs.Prelude.{ℕ, ◌+◌, List, [], ◌∷◌, length, replicate}
-use Rattle.charging.specs.declared.Charged.{Charged}
-use Rattle.charging.specs.Charge.{counter}
+use Rattle.std.specs.Prelude.{ℕ, ◌+◌, List, [], ◌∷◌, length, replicate, Ok}
+use Rattle.charging.specs.Charge.{Charged, counter}
 use Rattle.model.specs.declared.Rule.{Rule}
 use Rattle.model.specs.declared.Rules.{Rules}
 use Rattle.model.specs.declared.Span.{Span}
@@ -27,7 +26,7 @@ state_of ran flags marks bars = record { ran = ran; flags = flags; marks = marks
 
 -- no charge, no mark and no rule yet, from the count `start`
 abbrev pub ran_none : ℕ → Ran
-ran_none start = record { charged = Charged.Within (counter start); marks = 0; deferred = 0; simplified = 0 }
+ran_none start = record { charged = Ok (counter start); marks = 0; deferred = 0; simplified = 0 }
 
 -- a rule's own marks
 abbrev pub marks_of : ℕ → Step → List Mark

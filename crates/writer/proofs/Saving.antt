@@ -8,7 +8,7 @@ use mathlib.Core.Bool.{Bool, true, false, cond, not, ◌||◌}
 use mathlib.Core.List.{List}
 use mathlib.Core.Option.{some}
 use lib.Dec.{ltb, eqb}
-use lib.ListN.{length}
+use lib.ListN.{length, replicate}
 use borrow.Author.Tests.{lt-ltb, le-ltb, ne_eqb}
 use Rattle.memory.specs.Memory.{page}
 use Rattle.memory.proofs.Laws.{page_refused}
@@ -16,9 +16,9 @@ use Rattle.model.specs.Answer.{Summary, refusal, answer}
 use Rattle.model.specs.Job.{Job, malformed}
 use Rattle.laws.specs.Demands.{WellFormed}
 use Rattle.jobtext.specs.Read.{max_text}
-use Rattle.put.specs.Put.{last, Laid, kept_bytes}
+use Rattle.put.specs.Put.{last, Laid, kept_length, kept_bytes}
 use Rattle.put.proofs.Laws.{laid_length, stops_of_laid}
-use Rattle.put.proofs.Keeping.{none_kept, kept_whole, kept_page}
+use Rattle.put.proofs.Keeping.{kept_whole, kept_page}
 use Rattle.savedtext.specs.Saved.{text_of, too_long_for, fitted, saved, is_saved, saved_length, saved_bytes}
 use Rattle.savedtext.proofs.Thirteen.{malformed_number, saved_malformed, saved_zeros}
 use Rattle.writer.specs.Answers.{Wrote}
@@ -35,24 +35,24 @@ module _ (start : ℕ) (ts d : List ℕ) where
       go true = refl
       go false = refl
 
-  pub wrote_nothing : {needed : ℕ} {e : List ℕ} → needed ≡ length ts → (length d < needed) ⊎ (max_text < needed) → e ≡ kept_bytes d 0
+  pub wrote_nothing : {needed : ℕ} {e : List ℕ} → needed ≡ length ts → (length d < needed) ⊎ (max_text < needed) → e ≡ replicate (length d) 0
       → Wrote (refusal 13 0 start needed) 0 start ts d e
   unfolding fitted
   wrote_nothing n over b =
       let long = too_long (rw n at over) in
       record {
         answer = rw (long, n);
-        bytes = rw long (b ∙ (none_kept d ∙ sym (page_refused 0 (length d) ts)));
+        bytes = rw long (b ∙ sym (page_refused 0 (length d) ts));
         length = rw long;
       }
 
-  pub wrote_whole : {e f : List ℕ} {r : ℕ} → length d < last → Laid d 0 ts e r → length ts ≤ length d → length ts ≤ max_text
-      → f ≡ kept_bytes e r → Wrote (answer start 0 0 0) r start ts d f
+  pub wrote_whole : {e f : List ℕ} {q r : ℕ} → length d < last → Laid d 0 ts e q → length ts ≤ length d → length ts ≤ max_text
+      → r ≡ kept_length (length e) q → f ≡ kept_bytes e r → Wrote (answer start 0 0 0) r start ts d f
   unfolding too_long_for fitted page
-  wrote_whole {e} {f} {r} room a fits most b =
+  wrote_whole {e} {f} {q} {r} room a fits most kept b =
       let n = a.next in
-      let end : r ≡ length ts = omega arith in
-      let kept = kept_whole (length e) r (omega (arith, laid_length a)) in
+      let at : q ≡ length ts = omega arith in
+      let end : r ≡ length ts = kept ∙ (sym (kept_whole (length e) q (omega (arith, laid_length a))) ∙ at) in
       let whole = kept_page (stops_of_laid room a) kept b in
       let one = le-ltb (length d) (length ts) fits in
       let two = le-ltb max_text (length ts) most in
@@ -79,7 +79,7 @@ pub record Saves (limit : ℕ) (j : Job) (room : ℕ) (s : Summary) (n : ℕ) (e
   pub bytes : e ≡ saved_bytes limit j room
 
 module _ (limit : ℕ) (j : Job) (d : List ℕ) {e : List ℕ} where
-  pub saves_refused : {s : Summary} → malformed j ≡ some s → e ≡ kept_bytes d 0 → Saves limit j (length d) s 0 e
+  pub saves_refused : {s : Summary} → malformed j ≡ some s → e ≡ replicate (length d) 0 → Saves limit j (length d) s 0 e
   unfolding saved_length is_saved
   saves_refused {s} m b =
       let is : saved limit j (length d) ≡ s = saved_malformed limit j (length d) s m in
@@ -87,7 +87,7 @@ module _ (limit : ℕ) (j : Job) (d : List ℕ) {e : List ℕ} where
       record {
         answer = sym is;
         length = rw (ne_eqb (saved limit j (length d)).number 0 no);
-        bytes = b ∙ (none_kept d ∙ sym (saved_zeros limit j (length d) no));
+        bytes = b ∙ sym (saved_zeros limit j (length d) no);
       }
 
   pub saves_wrote : {s : Summary} {n : ℕ} → WellFormed j → Wrote s n j.start (text_of limit j) d e → Saves limit j (length d) s n e

@@ -1,9 +1,8 @@
 -- The text of a lent job is that of its head and sections, one after the other. Assumes nothing.
-use Prim.Native.Nat.{ℕ, ◌≤◌}
-use native.Mathlib.Omega.{arith}
+use Prim.Native.Nat.{ℕ}
 use mathlib.Core.Path.{◌≡◌}
 use mathlib.Core.List.{List, ◌++◌, append_assoc, map}
-use lib.ListN.{length, take, length-map, length-take}
+use lib.ListN.{length, take, length-map}
 use Rattle.model.specs.declared.Rule.{Rule}
 use Rattle.model.specs.Sheet.{CellColumns, text_at, regions_from}
 use Rattle.model.specs.Job.{Job, cell_count, region_count, rules_of}
@@ -26,18 +25,12 @@ regions_part rows cols = region_names ++ times_text region_line.text (regions_fr
 abbrev pub rules_part : List ℕ → ℕ → List Rule → List ℕ
 rules_part pool number records = rule_names ++ times_text rule_line.text (map (rule_said pool) (take number records))
 
-rules_length : (pool : List ℕ) (number : ℕ) (records : List Rule) → number ≤ length records
-    → length (map (rule_said pool) (take number records)) ≡ number
-rules_length pool number records h = simp (length-map, length-take) (omega arith)
-
--- all records are there
-pub text_joined : (limit : ℕ) (j : Job) → j.rules.number ≤ length j.rules.records
-    → text_of limit j
-    ≡ ((head.text (head_with limit j.start (cell_count j) (region_count j) j.rules.number (text_at j.pool j.name))
+pub text_joined : (limit : ℕ) (j : Job) → text_of limit j
+    ≡ ((head.text (head_with limit j.start (cell_count j) (region_count j) (length (take j.rules.number j.rules.records)) (text_at j.pool j.name))
     ++ cells_part j.pool j.cells)
     ++ regions_part j.region_rows j.region_cols)
     ++ rules_part j.pool j.rules.number j.rules.records
 unfolding text_of job body_of tail job_said rules_of
-text_joined limit j h =
-    rw (cells_length limit j, regions_length limit j, rules_length j.pool j.rules.number j.rules.records h)
+text_joined limit j =
+    rw (cells_length limit j, regions_length limit j, length-map (take j.rules.number j.rules.records) (rule_said j.pool))
     (simp append_assoc)

@@ -5,7 +5,7 @@ use Rattle.a1reader.proofs.Quotes.{Quoting}
 use Rattle.a1reader.proofs.between_quotes.Given as goal
 
 abbrev pub invariant-loop-q : goal.invariant-loop-q
-invariant-loop-q l = Quoting l.s l.at l.length l.ok l.q
+invariant-loop-q l = Quoting l.s l.at l.length l.printable l.q
 
 abbrev pub decreases-loop-q : goal.decreases-loop-q
 decreases-loop-q l = lib.ListN.length l.s - l.q

@@ -1,13 +1,7 @@
--- `a1reader::word_end` meets its contract. The loop's invariant: the bytes of the word that are left end where the word ends.
--- A byte of the word is passed in a turn. The measure is what is left of the text. Assumes nothing.
-use Prim.Native.Nat.{◌-◌}
-use lib.ListN.{length}
+-- `a1reader::word_end` meets its contract. The loop's invariant: the bytes of the word that are left end where the word ends. Assumes nothing.
 use Rattle.a1text.specs.Bytes.{is_word_byte}
 use Rattle.a1reader.proofs.Runs.{Passed}
 use Rattle.a1reader.proofs.word_end.Given as goal
 
 abbrev pub invariant-loop-q : goal.invariant-loop-q
 invariant-loop-q l = Passed is_word_byte l.s l.q
-
-abbrev pub decreases-loop-q : goal.decreases-loop-q
-decreases-loop-q l = length l.s - l.q

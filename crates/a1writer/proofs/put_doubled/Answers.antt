@@ -1,24 +1,19 @@
-use Prim.Native.Nat.{◌<◌}
 use native.Mathlib.Omega.{arith}
-use lib.ListN.{length}
-use Rattle.put.specs.Put.{last}
 use Rattle.a1writer.proofs.Doubled.{doubling_begun, doubling_quote, doubling_other, doubling_done}
 use Rattle.a1writer.proofs.put_doubled.Goals as goal
 use Rattle.a1writer.proofs.put_doubled.Goals.{else-quote, then-quote}
 
-pub loop-i-init : goal.loop-i-init
-loop-i-init c = doubling_begun c.requires
+pub loop-b-init : goal.loop-b-init
+loop-b-init c = doubling_begun c.requires
 
-pub loop-i-preserved : goal.loop-i-preserved
-loop-i-preserved c =
-    let left = c.loop-i.invariant in
-    let room : length c.args.text.now < last = omega (arith, c.well_formed.0) in
-    let second = c.put_byte-q-in-loop-i.ensures in
+pub loop-b-preserved : goal.loop-b-preserved
+loop-b-preserved c =
+    let left = c.loop-b.invariant in
+    let second = c.put_byte-in-loop-b.ensures in
     (elim c.if-quote.branch [
-      | then-quote w ↦ doubling_quote left room c.loop-i-test.true w.if-quote.true w.put_byte-q.ensures
-          (rw (w.text-is, w.q-is) at second)
-      | else-quote w ↦ doubling_other left room c.loop-i-test.true w.if-quote.false (rw (w.text-is, w.q-is) at second)
+      | then-quote w ↦ doubling_quote left (omega arith) c.loop-b-test.true w.if-quote.true w.put_byte.ensures (rw w.text-is at second)
+      | else-quote w ↦ doubling_other left (omega arith) c.loop-b-test.true w.if-quote.false (rw w.text-is at second)
     ])
 
 pub returns : goal.returns
-returns c = doubling_done c.loop-i.invariant c.loop-i-test.false
+returns c = doubling_done c.loop-b.invariant c.loop-b-test.false

@@ -6,24 +6,24 @@ use mathlib.Core.Path.{sym, ◌∙◌}
 use lib.ListN.{length}
 use Rattle.grammar.specs.Parts.{bytes}
 use Rattle.put.specs.Put.{last}
-use Rattle.put.proofs.Laws.{laid_then, laid_as, laid_ready}
+use Rattle.put.proofs.Laws.{puts_then, puts_as, laid_ready}
 use Rattle.a1writer.proofs.Texts.{name_bare, name_quoted}
 use Rattle.a1writer.proofs.put_name.Goals as goal
 
 pub returns-then-is_bare : goal.returns-then-is_bare
 unfolding bytes
 returns-then-is_bare c =
-    let room : length c.args.text.now < last = omega (arith, c.well_formed.0) in
-    laid_as (laid_then room c.put_bytes-end.ensures c.put_byte.ensures)
+    let room : length c.args.text.now.bytes.now < last = omega arith in
+    puts_as (puts_then room c.put_bytes.ensures c.put_byte.ensures)
     (name_bare _ (sym c.is_bare.ensures ∙ c.if-is_bare.true))
 
-pub put_doubled-end-requires : goal.put_doubled-end-requires
-put_doubled-end-requires c =
-    laid_ready c.put_byte-quote.ensures (omega (arith, c.well_formed.0))
+pub put_doubled-requires : goal.put_doubled-requires
+put_doubled-requires c =
+    laid_ready c.put_byte-else-is_bare.ensures.laid (omega arith)
 
-pub returns : goal.returns
+pub returns-else-is_bare : goal.returns-else-is_bare
 unfolding bytes
-returns c =
-    let room : length c.args.text.now < last = omega (arith, c.well_formed.0) in
-    laid_as (laid_then room (laid_then room c.put_byte-quote.ensures c.put_doubled-end.ensures) c.put_bytes.ensures)
+returns-else-is_bare c =
+    let room : length c.args.text.now.bytes.now < last = omega arith in
+    puts_as (puts_then room (puts_then room c.put_byte-else-is_bare.ensures c.put_doubled.ensures) c.put_bytes-else-is_bare.ensures)
     (name_quoted _ (sym c.is_bare.ensures ∙ c.if-is_bare.false))

@@ -3,10 +3,11 @@
 use native.Mathlib.Omega.{arith}
 use mathlib.Core.Path.{◌≡◌, refl, ◌∙◌}
 use mathlib.Core.Option.{none}
-use borrow.Author.Rules.{rules}
+use lib.Ieee.{of_bits}
 use Rattle.model.specs.Job.{Job, Lengths}
 use Rattle.laws.specs.Demands.{lengths_of}
-use Rattle.checks.specs.Checked.{cell_columns, job_of, refusal_of}
+use Rattle.model.specs.Lent.{job_lent}
+use Rattle.checks.specs.Checked.{refusal_of}
 use Rattle.turns.specs.Lent.{lent}
 use Rattle.turns.specs.Emit.{MarkColumns, mark_columns, BarColumns, bar_columns}
 use Rattle.turns.specs.Turns.{left, left_by}
@@ -16,18 +17,18 @@ use Rattle.turns.proofs.Answering.{lent_zeros, lent_same, marks_same, bars_same,
 use Rattle.call.proofs.resolve_conditional_paints.Goals as goal
 use Rattle.call.proofs.resolve_conditional_paints.Goals.{After-settle_columns}
 
-pub returns-in-Refused : goal.returns-in-Refused
-returns-in-Refused c =
+pub returns-in-Err : goal.returns-in-Err
+unfolding of_bits
+returns-in-Err c =
     let a = c.args in
-    let j = job_of (cell_columns a.rows.now a.cols.now a.kinds.now a.wraps.now a.nums.now a.ats.now a.lens.now)
-    a.region_rows.now a.region_cols.now a.pool.now a.name a.rules a.start in
+    let j = job_lent a.job in
     let l = lengths_of (lent a.regions.now a.ruleids.now a.markkinds.now a.colours.now a.ppms.now
     a.shapes.now a.barrules.now a.barppms.now a.scratch.now) in
     let z = c.clear_columns.ensures in
     let all = lent_zeros l z.regions_after z.ruleids_after z.markkinds_after z.colours_after z.ppms_after z.shapes_after
-    z.barrules_after z.barppms_after c.clear_f64.ensures in
+    z.barrules_after z.barppms_after (c.fill.ensures.after (λ y h. h)) in
     let done = answers_refused j a.limit l _ _ _ _ c.clear_columns.auto.barrules c.clear_columns.auto.barppms refl c.check-checked.ensures _ _
-    c.in-Refused.is all in record {
+    c.in-Err.is all in record {
       answer = done.answer;
       columns = done.columns;
     }
@@ -35,12 +36,11 @@ returns-in-Refused c =
 pub run-ran-requires : goal.run-ran-requires
 run-ran-requires c =
     let a = c.args in
-    let j = job_of (cell_columns a.rows.now a.cols.now a.kinds.now a.wraps.now a.nums.now a.ats.now a.lens.now)
-    a.region_rows.now a.region_cols.now a.pool.now a.name a.rules a.start in
+    let j = job_lent a.job in
     let l = lengths_of (lent a.regions.now a.ruleids.now a.markkinds.now a.colours.now a.ppms.now
     a.shapes.now a.barrules.now a.barppms.now a.scratch.now) in
     let none_met = fine j a.limit l c.check-checked.result _ _ _ c.clear_columns.auto.barrules c.clear_columns.auto.barppms refl
-    c.check-checked.ensures c.in_default.in_default-own.keys2 in
+    c.check-checked.ensures c.in_default.not-Err in
     let f = checked_fine j l none_met in record {
       cols_value = (f.cells_rise, f.cells, omega (arith, f.cell_cols), f.scratch);
       region_cols_value = (f.regions_rise, f.regions, omega (arith, f.region_cols));
@@ -50,10 +50,7 @@ run-ran-requires c =
 
 module _ (c : After-settle_columns) where
   abbrev job : Job
-  job =
-      let a = c.args in
-      job_of (cell_columns a.rows.now a.cols.now a.kinds.now a.wraps.now a.nums.now a.ats.now a.lens.now)
-      a.region_rows.now a.region_cols.now a.pool.now a.name a.rules a.start
+  job = job_lent c.args.job
 
   abbrev lengths : Lengths
   lengths =
@@ -64,7 +61,7 @@ module _ (c : After-settle_columns) where
   none_met : refusal_of job lengths ≡ none
   none_met =
       fine job c.args.limit lengths c.check-checked.result _ _ _ c.clear_columns.auto.barrules c.clear_columns.auto.barppms refl
-      c.check-checked.ensures c.in_default.in_default-own.keys2
+      c.check-checked.ensures c.in_default.not-Err
 
   -- what the rules leave
   abbrev marks : MarkColumns

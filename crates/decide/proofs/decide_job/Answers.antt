@@ -2,7 +2,7 @@
 use mathlib.Core.Path.{refl}
 use borrow.Author.Rules.{rules}
 use Rattle.model.specs.Job.{rules_of}
-use Rattle.checks.specs.Checked.{cell_columns, job_of}
+use Rattle.model.specs.Lent.{job_lent}
 use Rattle.jobtext.specs.Decided.{whole_space}
 use Rattle.report.proofs.Printing.{printed_all}
 use Rattle.decide.proofs.Reports.{report_printed, answer_held}
@@ -12,8 +12,7 @@ pub returns : goal.returns
 unfolding whole_space rules_of
 returns c =
     let a = c.args in
-    let j = job_of (cell_columns a.rows.now a.cols.now a.kinds.now a.wraps.now a.nums.now a.ats.now a.lens.now)
-    a.region_rows.now a.region_cols.now a.pool.now a.name a.rules a.start in
+    let j = job_lent a.job in
     let same = report_printed j a.limit _ c.resolve_conditional_paints-answer.result _ refl
     c.resolve_conditional_paints-answer.ensures.answer c.resolve_conditional_paints-answer.ensures.columns in
     let held = answer_held j a.limit _ c.resolve_conditional_paints-answer.result c.resolve_conditional_paints-answer.ensures.answer _

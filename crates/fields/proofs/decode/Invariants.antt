@@ -1,10 +1,8 @@
--- `fields::decode` meets its contract. The loop's invariant: storing the bytes of the pairs left from here on gives what storing all
--- of them from the start gives. A store passes on to the next pair. The measure is the pairs left. Assumes nothing.
-use Rattle.fields.proofs.Pooling.{Left}
+-- `fields::decode` meets its contract. The loop's invariant: the bytes of the pairs so far are stored. Assumes nothing.
+use mathlib.Core.Path.{◌≡◌}
+use lib.Seq.{sets}
+use Rattle.fields.specs.Field.{pair_bytes}
 use Rattle.fields.proofs.decode.Given as goal
 
-abbrev pub invariant-loop-k : goal.invariant-loop-k
-invariant-loop-k l = Left l.s l.at l.number l.used l.initial.pool l.pool l.k l.q l.u
-
-abbrev pub decreases-loop-k : goal.decreases-loop-k
-decreases-loop-k l = l.k
+abbrev pub invariant-loop-i : goal.invariant-loop-i
+invariant-loop-i l = l.pool ≡ sets l.initial.pool l.used (pair_bytes l.i l.s l.at)

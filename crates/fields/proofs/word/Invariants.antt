@@ -1,13 +1,9 @@
 -- `fields::word` meets its contract. The loop's invariant: reading what is left of the word from here gives what reading the whole
--- word from the start gives. A byte read passes on to the next. The measure is what is left of the word. Assumes nothing.
-use Prim.Native.Nat.{◌-◌}
+-- word from the start gives. Assumes nothing.
 use mathlib.Core.Path.{◌≡◌}
-use lib.ListN.{length, drop}
+use lib.ListN.{drop}
 use Rattle.grammar.specs.Parts.{word_p}
 use Rattle.fields.proofs.word.Given as goal
 
-abbrev pub invariant-loop-i : goal.invariant-loop-i
-invariant-loop-i l = word_p (drop l.i l.w) l.s l.q ≡ word_p l.w l.s l.at
-
-abbrev pub decreases-loop-i : goal.decreases-loop-i
-decreases-loop-i l = length l.w - l.i
+abbrev pub invariant-loop-b : goal.invariant-loop-b
+invariant-loop-b l = word_p (drop l.b-index l.w) l.s l.next ≡ word_p l.w l.s l.at

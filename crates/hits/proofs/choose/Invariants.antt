@@ -1,14 +1,9 @@
 -- `hits::choose` meets its contract. The loop's invariant: the bytes so far are stored, and those from the next one on are as they were.
--- The measure is how many regions are left. Assumes nothing.
-use Prim.Native.Nat.{◌-◌}
+-- Assumes nothing.
 use mathlib.Core.Bool.{cond}
-use lib.ListN.{length}
 use Rattle.hits.specs.Chosen.{stands}
 use Rattle.hits.proofs.Stored.{Replaced}
 use Rattle.hits.proofs.choose.Given as goal
 
 abbrev pub invariant-loop-i : goal.invariant-loop-i
 invariant-loop-i l = Replaced (λ j. cond (stands 1 l.range l.flags l.cols l.initial.said j) 1 0) l.initial.said l.said l.i
-
-abbrev pub decreases-loop-i : goal.decreases-loop-i
-decreases-loop-i l = length l.initial.said - l.i

@@ -8,7 +8,7 @@ use lib.ListN.{length}
 use lib.Seq.{length-take-le}
 use Rattle.memory.proofs.Laws.{page_refused}
 use Rattle.hits.specs.Hits.{known}
-use Rattle.hits.proofs.Finding.{found_unfit, Fitting, fitting, part_long, tells_cut}
+use Rattle.hits.proofs.Finding.{found_unfit, found_fit, Fitting, fitting, part_long, tells_cut}
 use Rattle.hits.proofs.find_hits.Goals as goal
 use Rattle.hits.proofs.find_hits.Goals.{After-say, Else-not-fits}
 
@@ -24,7 +24,7 @@ returns-then-not-fits c =
     let a = c.args in
     let unfit = sym c.fits.ensures ∙ c.if-not-fits.true in record {
       found = λ imported. rw unfit (found_unfit _ _);
-      hits = λ imported. rw unfit (c.clear_u16.ensures ∙ sym (page_refused 0 (length a.hits.now) _));
+      hits = λ imported. rw unfit (c.fill.ensures.after (λ y h. h) ∙ sym (page_refused 0 (length a.hits.now) _));
     }
 
 pub offset_bounds-values-from : goal.offset_bounds-values-from
@@ -139,6 +139,6 @@ returns c =
     let fits = sym c.fits.ensures ∙ c.if-not-fits.false in
     let k = known a.values.now a.firsts.now a.seconds.now a.founds.now in
     let tells = tells_cut a.from a.to k a.test a.range a.cols.now a.flags.now _ (fit (goal.at.returns c).Else-not-fits).for_values (long (goal.at.returns c).After-say (fit (goal.at.returns c).Else-not-fits).few) in record {
-      found = λ imported. rw fits (found.ensures.found _ (tells imported (c.say.ensures imported)));
+      found = λ imported. rw fits (found_fit _ _ (found.ensures.found _ (tells imported (c.say.ensures imported))));
       hits = λ imported. rw fits (found.ensures.hits _ (tells imported (c.say.ensures imported)));
     }

@@ -11,17 +11,16 @@ use Rattle.hits.proofs.Hitting.{hits_told, none_told, first_told}
 use Rattle.hits.proofs.Finding.{found_unresolved, page_unresolved, found_resolved, hits_resolved}
 use Rattle.hits.proofs.found_by.Goals as goal
 
-pub returns-then-first-n : goal.returns-then-first-n
-returns-then-first-n c =
-    let taken = c.if-first-n.true in
-    let first = c.first_unresolved-first in
+pub returns-in-Some : goal.returns-in-Some
+returns-in-Some c =
+    let first = c.in-Some.ensures in
     let a = c.args in record {
       found = λ os tells.
-          let some = first_told tells a.from first.result taken first.ensures.ahead (first.ensures.here taken) in
+          let some = first_told tells a.from c.in-Some.first first.0 first.1 first.2 in
           found_unresolved _ os some.0 some.1;
       hits = λ os tells.
-          let some = first_told tells a.from first.result taken first.ensures.ahead (first.ensures.here taken) in
-          c.clear_u16.ensures ∙ page_unresolved _ os (length a.hits.now) some.0;
+          let some = first_told tells a.from c.in-Some.first first.0 first.1 first.2 in
+          c.fill.ensures.after (λ y h. h) ∙ page_unresolved _ os (length a.hits.now) some.0;
     }
 
 pub keep-count-requires : goal.keep-count-requires
@@ -39,14 +38,13 @@ pub returns : goal.returns
 returns c =
     let kept = c.keep-count in
     let chosen = c.choose in
-    let first = c.first_unresolved-first in
     let a = c.args in record {
       found = λ os tells.
-          let none = none_told tells a.from first.result c.if-first-n.false first.ensures.ahead in
+          let none = none_told tells a.from (length a.said.now) (omega arith) c.in_default.ensures in
           let hits = hits_told tells a.from _ chosen.auto.said chosen.ensures in
-          found_resolved _ os none.0 none.1 (kept.ensures.count ∙ ap length (sym hits));
+          found_resolved _ os none.0 (kept.ensures.count ∙ ap length (sym hits));
       hits = λ os tells.
-          let none = none_told tells a.from first.result c.if-first-n.false first.ensures.ahead in
+          let none = none_told tells a.from (length a.said.now) (omega arith) c.in_default.ensures in
           let hits = hits_told tells a.from _ chosen.auto.said chosen.ensures in
           kept.ensures.hits ∙ ap (page_of true (length a.hits.now)) (sym hits ∙ hits_resolved _ os none.0);
     }

@@ -1,56 +1,23 @@
--- `marks::print_report`: what was read is the input, or its first 65,537 bytes, and what is written is the report on that. Assumes nothing.
-use Rattle.std.proofs.Common.{◌≡◌, ◌<◌, ◌≤◌, None, Some, Option, IfSome, length, take, ℕ, Bool, true, false, leb, List, [], ◌++◌, sym, ap, ◌∙◌, subst, arith, rules, length-take-le, take_all, refl}
-use Rattle.std.proofs.lemmas.List.{append-nil, take-append-le}
-use Rattle.std.specs.Io.KnownBytes.{Appends, Consumes, IsAtEnd}
-use borrow.Author.Tests.{leb-true, leb-false}
+-- `marks::print_report`: what the job leaves for a text is its report, since the lent bytes are as many as the longest. Assumes nothing.
+use Rattle.std.proofs.Common.{◌≡◌, ◌≤◌, ◌-◌, ℕ, List, length, take, replicate, arith, sym, ap, ◌∙◌}
+use Rattle.std.proofs.Math.Seq.{take-append_seam}
+use Rattle.std.proofs.lemmas.List.{length-replicate}
+use Rattle.memory.specs.Memory.{page, page_length}
+use Rattle.memory.proofs.Laws.{text_fits}
 use Rattle.reporttext.specs.Reports.{report_on}
+use Rattle.whole.proofs.Longest.{whole_longest}
+use Rattle.streams.proofs.Told.{written_as}
 use Rattle.marks.proofs.print_report.Goals as goal
 
-module _ (told : List ℕ → List ℕ) (m n : ℕ) (text : List ℕ) (size : length text ≡ m) (within : n ≤ length text) where
-  long : length (take n text) ≡ n
-  long = length-take-le n text within
+-- a text that fits is at the front
+front : (n r : ℕ) (ts bytes : List ℕ) → length ts ≤ n → r ≡ page_length n ts → bytes ≡ page n ts → take r bytes ≡ ts
+front n r ts bytes h e b =
+    let f = text_fits n ts h in
+    ap (λ k. take k bytes) (e ∙ f.0) ∙ ap (take (length ts)) (b ∙ f.1) ∙ take-append_seam ts (replicate (n - length ts) 0)
 
-  -- what was read, against all that there was
-  all_read : (xs ys : List ℕ) → xs ≡ take n text ++ ys → (n < length text → ys ≡ []) → take n text ≡ take m xs
-  all_read xs ys e h = go (leb m n) refl
-    where
-      go : (b : Bool) → leb m n ≡ b → take n text ≡ take m xs
-      go true f =
-          let same : m ≡ length (take n text) = let le : m ≤ n = leb-true _ _ f in omega (arith, long) in
-          sym (take_all m (take n text) (omega (arith, long))) ∙ sym (take-append-le m (take n text) ys (omega arith)) ∙ ap (take m) (sym e)
-      go false f =
-          let less : n < m = leb-false _ _ f in
-          let whole : xs ≡ take n text = e ∙ ap (λ l. take n text ++ l) (h (omega arith)) ∙ append-nil _ in
-          sym (take_all m (take n text) (omega (arith, long))) ∙ ap (take m) (sym whole)
-
-  -- what is written, said of the reader and the writer
-  printed :
-      (old new : Option (List ℕ)) (bytes : List ℕ) (w v : Option (List ℕ))
-      → Consumes old new (take n text)
-      → (n < length text → IsAtEnd new)
-      → bytes ≡ told (take n text)
-      → Appends w v bytes
-      → IfSome old (λ xs. Appends w v (told (take m xs)))
-  printed None new bytes w v c h e a = tt
-  printed (Some xs) None bytes w v c h e a = absurd c
-  printed (Some xs) (Some ys) bytes w v c h e a = subst (Appends w v) (e ∙ ap told (all_read xs ys c h)) a
-
-pub returns-in-Ok : goal.returns-in-Ok
-returns-in-Ok g c =
-    let read = c.read_text-input in
-    printed
-    report_on
-    65_537
-    read.result.length
-    read.new.text
-    (omega arith)
-    read.ensures.count
-    _
-    _
-    _
-    _
-    _
-    read.ensures.bytes
-    (read.ensures.end (search rules))
-    (c.report_on-n.ensures.all (omega arith))
-    c.in-Ok.ensures.bytes
+pub returns-clause-printed : goal.returns-clause-printed
+returns-clause-printed g c =
+    written_as c.pass.result _ _ _ 65_537 (replicate 45_033 0) report_on c.pass.ensures.passed
+    (λ text n left m.
+    let room : length m.given.now ≡ 45_033 = ap length m.gives ∙ length-replicate {A = ℕ} 45_033 0 in
+    ap (take n) (sym m.leaves) ∙ front _ n _ _ (omega (arith, whole_longest m.shown.now)) m.met.0 m.met.1 ∙ ap report_on m.shows)

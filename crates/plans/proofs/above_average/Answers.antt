@@ -1,18 +1,19 @@
 -- `above_average` meets its contract: there are values, and the average tells whether their sum is finite. Assumes nothing.
-use mathlib.Core.Path.{sym, ◌∙◌}
+use Rattle.std.proofs.Common.{sym, ◌∙◌, eqb-true}
+use Rattle.std.proofs.lemmas.Bool.{eqb-false}
 use Rattle.model.specs.Rule.{against}
 use Rattle.plans.proofs.Cases.{mean_none, mean_some}
 use Rattle.plans.proofs.above_average.Goals as goal
 
-pub returns-then-values-eq0 : goal.returns-then-values-eq0
-returns-then-values-eq0 c = sym (mean_none _ _ _ c.if-values-eq0.true)
+pub returns-then-is_empty : goal.returns-then-is_empty
+returns-then-is_empty c = sym (mean_none _ _ _ (eqb-true _ _ (sym c.is_empty.ensures ∙ c.if-is_empty.true)))
 
-pub returns-in-Number : goal.returns-in-Number
+pub returns-in_default : goal.returns-in_default
 unfolding against
-returns-in-Number c =
-    rw (mean_some _ _ _ c.if-values-eq0.false, sym c.average.ensures ∙ c.in-Number.is)
+returns-in_default c =
+    rw (mean_some _ _ _ (eqb-false _ _ (sym c.is_empty.ensures ∙ c.if-is_empty.false)), sym c.average.ensures ∙ c.in_default.is)
 
-pub returns-in-Nothing : goal.returns-in-Nothing
+pub returns : goal.returns
 unfolding against
-returns-in-Nothing c =
-    rw (mean_some _ _ _ c.if-values-eq0.false, sym c.average.ensures ∙ c.in-Nothing.is)
+returns c =
+    rw (mean_some _ _ _ (eqb-false _ _ (sym c.is_empty.ensures ∙ c.if-is_empty.false)), sym c.average.ensures ∙ c.in-Some.is)

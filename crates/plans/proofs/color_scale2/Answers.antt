@@ -7,4 +7,4 @@ pub returns-in_default : goal.returns-in_default
 returns-in_default c = rw (scale2_bounds, sym c.numeric_bounds.ensures ∙ c.in_default.is)
 
 pub returns : goal.returns
-returns c = rw (scale2_bounds, sym c.numeric_bounds.ensures ∙ c.in-Of.is)
+returns c = rw (scale2_bounds, sym c.numeric_bounds.ensures ∙ c.in-Some.is)

@@ -7,4 +7,4 @@ pub returns-in_default : goal.returns-in_default
 returns-in_default c = λ xs b m. rw (scale3_bounds, sym b ∙ c.in_default.is)
 
 pub returns : goal.returns
-returns c = λ xs b m. rw (scale3_bounds, sym b ∙ c.in-Of.is, m)
+returns c = λ xs b m. rw (scale3_bounds, sym b ∙ c.in-Some.is, m)

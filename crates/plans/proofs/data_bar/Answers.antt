@@ -7,4 +7,4 @@ pub returns-in_default : goal.returns-in_default
 returns-in_default c = rw (bar_bounds, sym c.numeric_bounds.ensures ∙ c.in_default.is)
 
 pub returns : goal.returns
-returns c = rw (bar_bounds, sym c.numeric_bounds.ensures ∙ c.in-Of.is)
+returns c = rw (bar_bounds, sym c.numeric_bounds.ensures ∙ c.in-Some.is)

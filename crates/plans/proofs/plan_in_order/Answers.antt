@@ -1,11 +1,9 @@
 -- `plan_in_order` meets its contract: the values in order have the midpoint and the threshold, and no other kind comes here.
 -- Assumes nothing.
 use mathlib.Core.Path.{sym, ap, ◌∙◌}
-use mathlib.Core.Bool.{false≢true}
 use Rattle.plans.specs.Plans.{plan_of_values, orders_values}
 use Rattle.plans.proofs.Cases.{rank_some}
-use Rattle.plans.proofs.AnyOrder.{some_values, some_rank, not_ordering}
-use borrow.Enum.Refused.{opened}
+use Rattle.plans.proofs.AnyOrder.{some_values, some_rank}
 use Rattle.plans.proofs.plan_in_order.Goals as goal
 
 pub returns-in-ColorScale3 : goal.returns-in-ColorScale3
@@ -24,6 +22,3 @@ returns-in-TopBottom c =
       c.selected-count.ensures,
       c.sort-in-TopBottom.ensures,
     )
-
-pub returns-in_default : goal.returns-in_default
-returns-in_default c = absurd (false≢true (sym (not_ordering _ (opened c.in_default.in_default-own.keys3)) ∙ c.requires.kind_value))

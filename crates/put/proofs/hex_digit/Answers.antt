@@ -7,6 +7,6 @@ pub returns-then-d-lt10 : goal.returns-then-d-lt10
 unfolding hex_digit
 returns-then-d-lt10 c = simp (lt-ltb _ _ c.if-d-lt10.true)
 
-pub returns : goal.returns
+pub returns-else-d-lt10 : goal.returns-else-d-lt10
 unfolding hex_digit
-returns c = simp (le-ltb _ _ c.if-d-lt10.false)
+returns-else-d-lt10 c = simp (le-ltb _ _ c.if-d-lt10.false)

@@ -5,8 +5,8 @@ use Rattle.std.proofs.Common.{◌-◌}
 use Rattle.ranks.proofs.Halving.{Halved}
 use Rattle.ranks.proofs.near_value.Given as goal
 
-abbrev pub invariant-loop-hi : goal.invariant-loop-hi
-invariant-loop-hi l = Halved l.values l.k l.lo l.hi
+abbrev pub invariant-halving : goal.invariant-halving
+invariant-halving l = Halved l.values l.k l.span.lo l.span.hi
 
-abbrev pub decreases-loop-hi : goal.decreases-loop-hi
-decreases-loop-hi l = l.hi - l.lo
+abbrev pub decreases-halving : goal.decreases-halving
+decreases-halving l = l.span.hi - l.span.lo

@@ -1,8 +1,8 @@
 -- `report::put_dash` meets its contract. Assumes nothing.
 use native.Mathlib.Omega.{arith}
-use Rattle.put.proofs.Laws.{laid_then}
+use Rattle.put.proofs.Laws.{puts_then}
 use Rattle.report.proofs.put_dash.Goals as goal
 
 pub returns : goal.returns
 returns c =
-    laid_then (omega arith) c.put_byte-next.ensures c.put_byte.ensures
+    puts_then (omega arith) c.put_byte.ensures c.put_byte-2.ensures

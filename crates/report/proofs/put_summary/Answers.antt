@@ -5,27 +5,27 @@ use mathlib.Core.List.{append_assoc}
 use lib.ListN.{length}
 use Rattle.grammar.specs.Parts.{bytes}
 use Rattle.put.specs.Put.{last}
-use Rattle.put.proofs.Laws.{laid_then, laid_as}
+use Rattle.put.proofs.Laws.{puts_then, puts_as}
 use Rattle.reporttext.specs.Report.{summary_names, summary_line, summary_text}
 use Rattle.report.proofs.put_summary.Goals as goal
 
 pub returns : goal.returns
 unfolding bytes summary_names summary_line summary_text
 returns c =
-    let room : length c.args.text.now < last =
-    omega (arith, c.well_formed.0) in
-    laid_as (
-    laid_then room (
-    laid_then room (
-    laid_then room (
-    laid_then room (
-    laid_then room (
-    laid_then room (
-    laid_then room c.put_bytes-names.ensures c.put_number-number.ensures)
-    c.put_number-place.ensures)
-    c.put_number-count.ensures)
-    c.put_number-actual.ensures)
-    c.put_number-marks.ensures)
-    c.put_number-deferred.ensures)
-    c.put_number.ensures)
+    let room : length c.args.text.now.bytes.now < last =
+    omega arith in
+    puts_as (
+    puts_then room (
+    puts_then room (
+    puts_then room (
+    puts_then room (
+    puts_then room (
+    puts_then room (
+    puts_then room c.put_bytes.ensures c.put_number.ensures)
+    c.put_number-2.ensures)
+    c.put_number-3.ensures)
+    c.put_number-4.ensures)
+    c.put_number-5.ensures)
+    c.put_number-6.ensures)
+    c.put_number-7.ensures)
     (simp append_assoc)

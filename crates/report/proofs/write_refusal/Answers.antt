@@ -3,7 +3,7 @@ use native.Mathlib.Omega.{arith}
 use mathlib.Core.Path.{sym, ap}
 use mathlib.Core.Bool.{not}
 use borrow.Author.Tests.{eq-eqb, ne_eqb}
-use Rattle.put.proofs.Laws.{laid_as, stops_of_laid}
+use Rattle.put.proofs.Laws.{puts_as, stops_of_laid}
 use Rattle.put.proofs.Keeping.{kept_page}
 use Rattle.reporttext.specs.Report.{summary_text}
 use Rattle.report.proofs.Printing.{printed_page, printed_none}
@@ -11,18 +11,15 @@ use Rattle.report.proofs.write_refusal.Goals as goal
 
 pub returns-then-number-eq0 : goal.returns-then-number-eq0
 returns-then-number-eq0 c =
-    let none = printed_none c.args.report.now (ap not (eq-eqb _ _ c.if-number-eq0.true))
-    c.keep.ensures.length c.keep.ensures.bytes in record {
-      length = none.length;
-      bytes = none.bytes;
-    }
+    let none = printed_none _ (ap not (eq-eqb _ _ c.if-number-eq0.true)) (c.fill.ensures.after (λ y e. e)) in
+    record { length = none.length; bytes = none.bytes }
 
 pub returns : goal.returns
 returns c =
-    let laid = laid_as c.put_summary-end.ensures (ap summary_text (sym c.refusal_figures.ensures)) in
-    let page = kept_page (stops_of_laid (omega (arith, c.well_formed.1.1.1.1.0)) laid) c.keep-2.ensures.length
-    c.keep-2.ensures.bytes in
-    let all = printed_page (ap not (ne_eqb _ _ c.if-number-eq0.false)) page in record {
-      length = all.length;
-      bytes = all.bytes;
+    let laid = puts_as c.put_summary.ensures (ap summary_text (sym c.refusal_figures.ensures)) in
+    let yes = ap not (ne_eqb _ _ c.if-number-eq0.false) in
+    let text = stops_of_laid (omega arith) laid.laid in
+    record {
+      length = (printed_page yes (kept_page text c.keep.ensures.length c.keep.ensures.bytes)).length;
+      bytes = (printed_page yes (kept_page text c.keep.ensures.length (grind arith))).bytes;
     }

@@ -2,24 +2,17 @@
 use Prim.Native.Nat.{◌<◌}
 use native.Mathlib.Omega.{arith}
 use lib.ListN.{length}
-use Rattle.checks.specs.Checked.{cell_columns}
+use Rattle.model.specs.Lent.{cells_lent}
 use Rattle.put.specs.Put.{last}
-use Rattle.put.proofs.Laws.{laid_then, laid_as}
+use Rattle.put.proofs.Laws.{puts_then, puts_as}
 use Rattle.sheetwriter.proofs.Lines.{cell_joined}
 use Rattle.sheetwriter.proofs.put_cell.Goals as goal
 
 pub returns : goal.returns
 returns c =
-    let room : length c.args.text.now < last = omega (arith, c.well_formed.0) in
-    laid_as (
-    laid_then room (laid_then room (laid_then room c.put_number-row.ensures c.put_number-col.ensures) c.put_number-boxes.ensures)
+    let room : length c.args.text.now.bytes.now < last = omega arith in
+    puts_as (
+    puts_then room (puts_then room (puts_then room c.put_number.ensures c.put_number-2.ensures) c.put_number-3.ensures)
     c.put_value.ensures)
-    (cell_joined c.args.pool.now (cell_columns c.args.rows.now c.args.cols.now c.args.kinds.now
-    c.args.wraps.now c.args.nums.now c.args.ats.now c.args.lens.now) c.args.i
-    c.at_u32.ensures
-    c.at_u16.ensures
-    c.at_u8.ensures
-    c.at_u8-2.ensures
-    c.at_u64.ensures
-    c.at_u32-2.ensures
-    c.at_u32-3.ensures)
+    (cell_joined c.args.pool.now (cells_lent c.args.cells) c.args.i c.at.ensures c.at-2.ensures c.at-3.ensures c.at-6.ensures c.at-7.ensures
+    c.at-4.ensures c.at-5.ensures)

@@ -4,15 +4,15 @@ use native.Mathlib.Omega.{arith}
 use lib.ListN.{length}
 use Rattle.grammar.specs.Parts.{bytes}
 use Rattle.put.specs.Put.{last}
-use Rattle.put.proofs.Laws.{laid_then, laid_ready}
+use Rattle.put.proofs.Laws.{puts_then, laid_ready}
 use Rattle.sheetwriter.proofs.put_cells.Goals as goal
 
 pub put_cell_lines-requires : goal.put_cell_lines-requires
 put_cell_lines-requires c =
-    laid_ready c.put_bytes-names.ensures (omega (arith, c.well_formed.0))
+    laid_ready c.put_bytes.ensures.laid (omega arith)
 
 pub returns : goal.returns
 unfolding bytes
 returns c =
-    let room : length c.args.text.now < last = omega (arith, c.well_formed.0) in
-    laid_then room c.put_bytes-names.ensures c.put_cell_lines.ensures
+    let room : length c.args.text.now.bytes.now < last = omega arith in
+    puts_then room c.put_bytes.ensures c.put_cell_lines.ensures

@@ -7,11 +7,10 @@ loop-i-init c = lines_begun c.requires
 
 pub loop-i-preserved : goal.loop-i-preserved
 loop-i-preserved c =
-    let args = c.args in
-    lines_more (regions_listed args.rows.now args.cols.now) (omega (arith, c.well_formed.0))
-    c.loop-i-test.true c.loop-i.invariant c.put_region-end.ensures
+    let regions = c.args.regions in
+    lines_more (regions_listed regions.rows.now regions.cols.now) (omega arith) c.loop-i-test.true c.loop-i.invariant c.put_region.ensures
 
 pub returns : goal.returns
 returns c =
-    let args = c.args in
-    lines_done (regions_listed args.rows.now args.cols.now) (omega arith) c.loop-i.invariant
+    let regions = c.args.regions in
+    lines_done (regions_listed regions.rows.now regions.cols.now) (omega arith) c.loop-i.invariant

@@ -1,21 +1,12 @@
-use Prim.Native.Nat.{◌-◌}
-use mathlib.Core.Path.{refl, sym, ◌∙◌}
-use native.Mathlib.Omega.{arith}
-use Rattle.split.proofs.Trimming.{start_blank, start_other, start_empty}
+-- `first_kept` meets its contract. Assumes nothing.
+use Rattle.std.proofs.Common.{rules, tests}
+use Rattle.std.proofs.lemmas.Iterator.{YieldsList-from_slice}
+use Rattle.std.proofs.lemmas.Iterator.Search.{position_from_yields_List}
+use Rattle.split.proofs.Trimming.{kept, start_kept}
 use Rattle.split.proofs.first_kept.Goals as goal
 
-pub loop-at-init : goal.loop-at-init
-loop-at-init c = refl
-
-pub returns-then-not-blank : goal.returns-then-not-blank
-returns-then-not-blank c =
-    start_other _ _ c.loop-at.invariant (omega arith)
-    (sym c.blank.ensures ∙ c.if-not-blank.true)
-
-pub loop-at-preserved : goal.loop-at-preserved
-loop-at-preserved c =
-    start_blank _ _ c.loop-at.invariant (omega arith)
-    (sym c.blank.ensures ∙ c.if-not-blank.false)
-
 pub returns : goal.returns
-returns c = start_empty _ c.loop-at.at c.loop-at.invariant (omega arith)
+returns c =
+    start_kept _ _ _
+    (position_from_yields_List kept _ _ _ c.position-kept.ensures.ran (YieldsList-from_slice c.args.bytes.now cc) (λ x b q k. search (rules, tests)))
+    c.unwrap_or.ensures

@@ -1,28 +1,12 @@
-use mathlib.Core.Path.{sym, ◌∙◌}
-use native.Mathlib.Omega.{arith}
-use Rattle.split.proofs.Trimming.{end_blank, end_other, end_empty, end_whole}
+-- `last_kept` meets its contract: the bytes are gone through from their end. Assumes nothing.
+use Rattle.std.proofs.Common.{rules, tests}
+use Rattle.std.proofs.lemmas.Iterator.Adapters.{YieldsList-from_rev_slice}
+use Rattle.std.proofs.lemmas.Iterator.Search.{position_from_yields_List}
+use Rattle.split.proofs.Trimming.{kept, end_kept}
 use Rattle.split.proofs.last_kept.Goals as goal
 
-pub loop-end-init : goal.loop-end-init
-loop-end-init c = (omega arith, end_whole _)
-
-pub returns-then-not-blank : goal.returns-then-not-blank
-returns-then-not-blank c =
-    record {
-      within = omega arith;
-      kept = end_other _ _ c.loop-end.invariant.1 (omega arith) (omega arith)
-          (sym c.blank.ensures ∙ c.if-not-blank.true);
-    }
-
-pub loop-end-preserved : goal.loop-end-preserved
-loop-end-preserved c = (
-  omega arith,
-  end_blank _ _ c.loop-end.invariant.1 (omega arith) (omega arith)
-      (sym c.blank.ensures ∙ c.if-not-blank.false),
-)
-
-pub returns : goal.returns
-returns c = record {
-  within = omega arith;
-  kept = end_empty _ _ c.loop-end.invariant.1 (omega arith);
-}
+pub returns-clause-kept : goal.returns-clause-kept
+returns-clause-kept c =
+    end_kept _ _ _
+    (position_from_yields_List kept _ _ _ c.position-kept.ensures.ran (YieldsList-from_rev_slice c.args.bytes.now cc) (λ x b q k. search (rules, tests)))
+    c.unwrap_or.ensures

@@ -1,4 +1,3 @@
-use Prim.Native.Nat.{◌-◌}
 use native.Mathlib.Omega.{arith}
 use lib.ListN.{get_or}
 use Rattle.cells.specs.Columns.{columns}
@@ -9,7 +8,7 @@ use Rattle.call.proofs.bands.cells_in.Goals as goal
 
 pub loop-i-init : goal.loop-i-init
 loop-i-init c =
-    (omega arith, omega arith, omega arith, λ rows kinds wraps nums ats lens b. tally_from _ b)
+    (omega arith, λ rows kinds wraps nums ats lens b. tally_from _ b)
 
 pub overflow_add-count : goal.overflow_add-count
 unfolding column_in
@@ -22,15 +21,13 @@ unfolding column_in
 loop-i-preserved c =
     let l = c.loop-i in
     let a = c.args in (
-      omega arith,
-      omega arith,
       omega (arith, byte_few (column_in a.range (get_or a.cols.now l.i 0))),
       λ rows kinds wraps nums ats lens b.
-          tally_within (columns rows a.cols.now kinds wraps nums ats lens) b (l.invariant.3 rows kinds wraps nums ats lens b)
+          tally_within (columns rows a.cols.now kinds wraps nums ats lens) b (l.invariant.1 rows kinds wraps nums ats lens b)
           (omega arith) (omega arith),
     )
 
 pub returns : goal.returns
 returns c rows kinds wraps nums ats lens b =
     let l = c.loop-i in
-    tally_to _ b (l.invariant.3 rows kinds wraps nums ats lens b) (omega arith)
+    tally_to _ b (l.invariant.1 rows kinds wraps nums ats lens b) (omega (arith, b.ordered))

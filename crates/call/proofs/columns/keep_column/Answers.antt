@@ -5,4 +5,4 @@ pub returns-then-keep : goal.returns-then-keep
 returns-then-keep c = rw c.if-keep.true
 
 pub returns : goal.returns
-returns c = rw c.if-keep.false c.clear_u32.ensures
+returns c = rw c.if-keep.false (c.fill.ensures.after (λ y h. h))

@@ -17,8 +17,8 @@ pub returns : goal.returns
 returns c =
     let a = c.args in
     let ran = a.ran in
-    let keep = ap (λ (p : Summary × Bool). p.1) c.settle-settled.ensures ∙ ap (λ (n : ℕ). is_answered (settled_as n ran)) c.shortest-space.ensures in record {
-      answer = ap (λ (p : Summary × Bool). p.0) c.settle-settled.ensures ∙ ap (λ (n : ℕ). settled_as n ran) c.shortest-space.ensures;
+    let keep = c.is_ok.ensures.value ∙ ap (λ (p : Summary × Bool). p.1) c.settle-answer.ensures ∙ ap (λ (n : ℕ). is_answered (settled_as n ran)) c.shortest-space.ensures in record {
+      answer = ap (λ (p : Summary × Bool). p.0) c.settle-answer.ensures ∙ ap (λ (n : ℕ). settled_as n ran) c.shortest-space.ensures;
       regions_after = kept_as _ _ a.regions.now c.keep_columns.ensures.regions_after keep;
       ruleids_after = kept_as _ _ a.ruleids.now c.keep_columns.ensures.ruleids_after keep;
       markkinds_after = kept_as _ _ a.markkinds.now c.keep_columns.ensures.markkinds_after keep;

@@ -8,4 +8,4 @@ pub returns-then-entry-eq0 : goal.returns-then-entry-eq0
 returns-then-entry-eq0 c = no_code _ c.if-entry-eq0.true
 
 pub returns : goal.returns
-returns c = c.at_u16.ensures ∙ named_code _ _ (omega arith)
+returns c = c.at.ensures ∙ named_code _ _ (omega arith)

@@ -1,4 +1,3 @@
-use Prim.Native.Nat.{◌-◌}
 use native.Mathlib.Omega.{arith}
 use mathlib.Core.Path.{ap, ◌∙◌}
 use mathlib.Core.Bool.{and-false}
@@ -19,11 +18,11 @@ pub loop-i-preserved-then-range-col : goal.loop-i-preserved-then-range-col
 loop-i-preserved-then-range-col c =
     let l = c.loop-i in
     let a = c.args in
-    let code = c.code_named-code.ensures ∙ ap (code_named a.codes.now) c.at_u16.ensures in (
+    let code = c.code_named-code.ensures ∙ ap (code_named a.codes.now) c.at.ensures in (
       omega arith,
       omega arith,
       omega arith,
-      filled_more l.invariant.3 (omega (arith, l.invariant.3.long)) (c.at_u16-then-range-col.ensures ∙ ap (λ n. get_or a.counts.now n 0) code),
+      filled_more l.invariant.3 (omega (arith, l.invariant.3.long)) (c.at-then-range-col.ensures ∙ ap (λ n. get_or a.counts.now n 0) code),
     )
 
 pub next_in-next-requires : goal.next_in-next-requires

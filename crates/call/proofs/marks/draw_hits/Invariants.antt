@@ -1,16 +1,11 @@
 -- `call::marks::draw_hits` meets its contract. The loop's invariant: the regions left make of the bars so far what all of them make of the
--- bars at first. The measure is how many are left. Assumes nothing.
-use Prim.Native.Nat.{◌-◌}
+-- bars at first. Assumes nothing.
 use lib.Ieee.{nan}
-use lib.ListN.{length, get_or}
-use borrow.Author.Rules.{rules}
+use lib.ListN.{get_or}
 use Rattle.model.specs.Ratio.{ratio}
 use Rattle.turns.specs.Emit.{bar_columns}
 use Rattle.call.proofs.Drawing.{Drawn}
 use Rattle.call.proofs.marks.draw_hits.Given as goal
 
-abbrev pub invariant-loop-k : goal.invariant-loop-k
-invariant-loop-k l = Drawn l.rule (λ h. ratio (get_or l.values h nan) l.least l.greatest) l.hits (bar_columns l.initial.rules l.initial.ppms) (bar_columns l.rules l.ppms) l.k
-
-abbrev pub decreases-loop-k : goal.decreases-loop-k
-decreases-loop-k l = length l.hits - l.k
+abbrev pub invariant-loop-hit : goal.invariant-loop-hit
+invariant-loop-hit l = Drawn l.rule (λ h. ratio (get_or l.values h nan) l.least l.greatest) l.hits (bar_columns l.initial.rules l.initial.ppms) (bar_columns l.rules l.ppms) l.hit-index

@@ -2,7 +2,6 @@
 use mathlib.Core.Path.{sym, ap, ◌∙◌}
 use lib.ListN.{length, replicate}
 use lib.Seq.{sets}
-use borrow.Author.Rules.{rules}
 use Rattle.turns.proofs.Hits.{put_hits}
 use Rattle.call.proofs.marks.put_marks.Goals as goal
 

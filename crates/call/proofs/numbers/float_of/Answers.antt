@@ -1,12 +1,16 @@
--- `call::numbers::float_of` meets its contract: 0 / 0 is not-a-number. Assumes nothing.
-use lib.Ieee.{div, of_bits}
+-- `call::numbers::float_of` meets its contract. Assumes nothing.
+use mathlib.Core.Path.{◌≡◌, refl, ◌∙◌}
+use lib.Ieee.{Float, nan, of_bits}
+use Rattle.std.specs.Prelude.{Option, Some, None}
+use Rattle.std.specs.Option.{unwrap_or}
 use Rattle.hits.specs.Said.{as_float}
 use Rattle.call.proofs.numbers.float_of.Goals as goal
 
-pub returns-in-Number : goal.returns-in-Number
+or_nan : (o : Option Float) → unwrap_or o nan ≡ as_float o
 unfolding as_float
-returns-in-Number c = rw c.in-Number.is
+or_nan (Some x) = refl
+or_nan None = refl
 
-pub returns-in-Nothing : goal.returns-in-Nothing
-unfolding as_float div of_bits
-returns-in-Nothing c = rw c.in-Nothing.is
+pub returns : goal.returns
+unfolding of_bits
+returns c = c.unwrap_or.ensures ∙ or_nan c.args.reading

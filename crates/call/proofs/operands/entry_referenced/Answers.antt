@@ -3,11 +3,11 @@ use mathlib.Core.Path.{sym, ◌∙◌}
 use Rattle.cells.specs.Columns.{entry_referenced}
 use Rattle.call.proofs.operands.entry_referenced.Goals as goal
 
-pub returns-in-At : goal.returns-in-At
+pub returns-in-Some : goal.returns-in-Some
 unfolding entry_referenced
-returns-in-At c =
-    rw (sym c.conditional_reference_coordinate.ensures ∙ c.in-At.is) c.entry_at.ensures
+returns-in-Some c =
+    rw (sym c.conditional_reference_coordinate.ensures ∙ c.in-Some.is) c.entry_at.ensures
 
-pub returns-in-Nowhere : goal.returns-in-Nowhere
+pub returns-in-None : goal.returns-in-None
 unfolding entry_referenced
-returns-in-Nowhere c = rw (sym c.conditional_reference_coordinate.ensures ∙ c.in-Nowhere.is)
+returns-in-None c = rw (sym c.conditional_reference_coordinate.ensures ∙ c.in-None.is)

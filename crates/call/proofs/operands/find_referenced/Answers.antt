@@ -1,4 +1,4 @@
-use Prim.Native.Nat.{◌-◌, ◌*◌, ◌<◌}
+use Prim.Native.Nat.{◌<◌}
 use mathlib.Core.Path.{sym, ap, ◌∙◌}
 use native.Mathlib.Omega.{arith}
 use lib.ListN.{length}
@@ -12,50 +12,21 @@ use Rattle.call.proofs.Filling.{filled_from, filled_passed, filled_more}
 use Rattle.call.proofs.Meaning.{read_as}
 use Rattle.call.proofs.Aiming.{number_aimed, number_standing}
 use Rattle.call.proofs.operands.find_referenced.Goals as goal
-use Rattle.call.proofs.operands.find_referenced.Goals.{In-loop-i, Then-stands_at}
+use Rattle.call.proofs.operands.find_referenced.Goals.{Then-stands_at}
 
 pub loop-i-init : goal.loop-i-init
 loop-i-init c =
-    (omega arith, filled_from (λ k h. before_band c.requires.band_of.0 c.args.region_cols.now k h))
-
-in_column : (c : In-loop-i)
-    → (c.loop-i.i < length c.loop-i.column) × (c.loop-i.i * 8 < 18446744073709551608)
-in_column c = (omega arith, omega arith)
-
-pub offset_bounds-region_cols-i : goal.offset_bounds-region_cols-i
-offset_bounds-region_cols-i c = omega arith
-
-pub bounds-region_cols-i : goal.bounds-region_cols-i
-bounds-region_cols-i c = omega arith
-
-pub overflow_add-i : goal.overflow_add-i
-overflow_add-i c = omega arith
-
-pub loop-i-smaller-then-not-inside : goal.loop-i-smaller-then-not-inside
-loop-i-smaller-then-not-inside c = omega arith
+    filled_from (λ k h. before_band c.requires.band_of.0 c.args.region_cols.now k h)
 
 pub loop-i-preserved-then-not-inside : goal.loop-i-preserved-then-not-inside
 unfolding column_in
 loop-i-preserved-then-not-inside c =
-    let v = c.loop-i.invariant in (
-      omega (arith, v.0),
-      filled_passed v.1
-          (within_band c.requires.band_of.0 c.args.region_cols.now _ v.0 c.loop-i-test.true ∙ c.if-not-inside.true),
-    )
-
-pub offset_bounds-region_rows-i : goal.offset_bounds-region_rows-i
-offset_bounds-region_rows-i c = omega arith
-
-pub bounds-region_rows-i : goal.bounds-region_rows-i
-bounds-region_rows-i c = omega arith
+    filled_passed c.loop-i.invariant
+    (within_band c.requires.band_of.0 c.args.region_cols.now _ (omega arith) (omega arith) ∙ c.if-not-inside.true)
 
 pub aimed-at_row-requires : goal.aimed-at_row-requires
 aimed-at_row-requires c =
-    (c.requires.band_of.0.inside _ c.loop-i.invariant.0 c.loop-i-test.true).0
-
-pub overflow_cast-col : goal.overflow_cast-col
-overflow_cast-col c =
-    omega (arith, c.type_inv.region_cols c.loop-i.i)
+    (c.requires.band_of.0.inside _ (omega arith) (omega arith)).0
 
 pub aimed-at_col-requires : goal.aimed-at_col-requires
 aimed-at_col-requires c =
@@ -73,62 +44,29 @@ offset_bounds-floats-next c = omega (arith, (in_cells c).0)
 pub bounds-floats-next : goal.bounds-floats-next
 bounds-floats-next c = omega (arith, (in_cells (goal.at.bounds-floats-next c).Then-stands_at).1)
 
-pub offset_bounds-column-i : goal.offset_bounds-column-i
-offset_bounds-column-i c = omega (arith, (in_column (goal.at.offset_bounds-column-i c).In-loop-i).1)
-
-pub bounds-column-i : goal.bounds-column-i
-bounds-column-i c = omega (arith, (in_column (goal.at.bounds-column-i c).In-loop-i).0)
-
 pub overflow_add-next : goal.overflow_add-next
 overflow_add-next c = omega (arith, (in_cells (goal.at.overflow_add-next c).Then-stands_at).0)
 
-pub overflow_add-i-then-stands_at : goal.overflow_add-i-then-stands_at
-overflow_add-i-then-stands_at c = omega (arith, (in_column (goal.at.overflow_add-i-then-stands_at c).In-loop-i).1)
-
-pub loop-i-smaller-then-stands_at : goal.loop-i-smaller-then-stands_at
-loop-i-smaller-then-stands_at c = omega (arith, c.loop-i-test.true)
-
 pub loop-i-preserved-then-stands_at : goal.loop-i-preserved-then-stands_at
 loop-i-preserved-then-stands_at c =
-    let turn = (goal.at.loop-i-preserved-then-stands_at c).In-loop-i in
-    let v = turn.loop-i.invariant in (
-      omega (arith, v.0),
-      filled_more v.1 (in_column turn).0
-          (rw (← c.aimed-at_row.ensures, ← c.aimed-at_col.ensures)
-          (number_standing _ _ _ c.requires.cols_value.0 _ _ (sym c.stands_at.ensures ∙ c.if-stands_at.true))),
-    )
+    filled_more c.loop-i.invariant (omega arith)
+    (rw (← c.aimed-at_row.ensures, ← c.aimed-at_col.ensures)
+    (number_standing _ _ _ c.requires.cols_value.0 _ _ (sym c.stands_at.ensures ∙ c.if-stands_at.true)))
 
 pub entry_sought-entry-requires : goal.entry_sought-entry-requires
 entry_sought-entry-requires c =
     let cells = c.requires.cols_value in
     (cells.0, cells.1, cells.3)
 
-pub offset_bounds-column-i-in-loop-i : goal.offset_bounds-column-i-in-loop-i
-offset_bounds-column-i-in-loop-i c = omega (arith, (in_column (goal.at.offset_bounds-column-i-in-loop-i c).In-loop-i).1)
-
-pub bounds-column-i-in-loop-i : goal.bounds-column-i-in-loop-i
-bounds-column-i-in-loop-i c = omega (arith, (in_column (goal.at.bounds-column-i-in-loop-i c).In-loop-i).0)
-
-pub overflow_add-i-in-loop-i : goal.overflow_add-i-in-loop-i
-overflow_add-i-in-loop-i c = omega (arith, (in_column (goal.at.overflow_add-i-in-loop-i c).In-loop-i).1)
-
-pub loop-i-smaller : goal.loop-i-smaller
-loop-i-smaller c = omega (arith, c.loop-i-test.true)
-
 pub loop-i-preserved : goal.loop-i-preserved
 loop-i-preserved c =
-    let turn = (goal.at.loop-i-preserved c).In-loop-i in
-    let v = turn.loop-i.invariant in (
-      omega (arith, v.0),
-      filled_more v.1 (in_column turn).0
-          (c.number_named.ensures
-          ∙ ap (number_named _) (rw (← c.aimed-at_row.ensures, ← c.aimed-at_col.ensures) c.entry_sought-entry.ensures)),
-    )
+    filled_more c.loop-i.invariant (omega arith)
+    (c.number_named.ensures
+    ∙ ap (number_named _) (rw (← c.aimed-at_row.ensures, ← c.aimed-at_col.ensures) c.entry_sought-entry.ensures))
 
 pub returns : goal.returns
 returns c kinds wraps nums ats lens pool sheet numbered named i h m =
-    let v = c.loop-i.invariant in
     read_as _ _ _ _
-    (v.1.filled i (omega (arith, c.loop-i-test.false, (in_range_band c.requires.band_of.0 c.args.region_cols.now i h m).1)) m
+    (c.loop-i.invariant.filled i (omega (arith, c.requires.band_of.0.ordered, (in_range_band c.requires.band_of.0 c.args.region_cols.now i h m).1)) m
     ∙ number_aimed pool sheet _ _ _ named _ _ numbered c.requires.cols_value.2 (λ k. omega (arith, c.type_inv.rows k))
     (λ k. omega (arith, c.type_inv.cols k)))

@@ -3,14 +3,14 @@
 use native.Mathlib.Omega.{arith}
 use Prim.Native.Nat.{◌-◌}
 use mathlib.Core.Path.{◌≡◌, sym, ap, ◌∙◌}
-use mathlib.Core.Bool.{Bool}
+use mathlib.Core.Bool.{Bool, true}
 use mathlib.Core.List.{List}
 use lib.ListN.{length, take}
 use lib.Seq.{length-take-le}
 use Rattle.memory.specs.Memory.{page_of}
 use Rattle.model.specs.declared.Outcome.{Outcome}
-use Rattle.hits.specs.Hits.{known, outcomes_by, hits_of, found_in}
-use Rattle.hits.proofs.Finding.{Fitting, fitting}
+use Rattle.hits.specs.Hits.{known, outcomes_by, hits_of}
+use Rattle.hits.proofs.Finding.{Fitting, fitting, fit_found, never_unfit}
 use Rattle.call.proofs.picked.find_within.Goals as goal
 use Rattle.call.proofs.picked.find_within.Goals.{Start, Then-count-le128}
 
@@ -51,10 +51,17 @@ find_listed-requires c =
       hits_value = c.requires.hits_value;
     }
 
+pub unreachable-requires : goal.unreachable-requires
+unreachable-requires c =
+    never_unfit c.args.band.from (outcomes (goal.at.unreachable-requires c).Start true) c.requires.hits_value
+    (sym c.in_default.is ∙ c.find_hits.ensures.found true)
+
 pub returns : goal.returns
 returns c =
     let from = c.args.band.from in
-    let room = length c.args.hits.now in record {
-      found = λ imported. c.find_hits.ensures.found imported ∙ ap (λ (b : Bool). found_in b from (outcomes (goal.at.returns c).Start imported)) c.requires.hits_value;
-      hits = λ imported. c.find_hits.ensures.hits imported ∙ ap (λ (b : Bool). page_of b room (hits_of from (outcomes (goal.at.returns c).Start imported))) c.requires.hits_value;
+    let room = length c.args.hits.now in
+    let fits = c.requires.hits_value in record {
+      found = λ imported.
+          fit_found from (outcomes (goal.at.returns c).Start imported) fits (sym c.in-Some.is ∙ c.find_hits.ensures.found imported);
+      hits = λ imported. c.find_hits.ensures.hits imported ∙ ap (λ (b : Bool). page_of b room (hits_of from (outcomes (goal.at.returns c).Start imported))) fits;
     }

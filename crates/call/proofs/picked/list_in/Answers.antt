@@ -1,4 +1,3 @@
-use Prim.Native.Nat.{◌-◌}
 use native.Mathlib.Omega.{arith}
 use Rattle.hits.specs.Hits.{column_in}
 use Rattle.call.proofs.Listing.{listed_begun, listed_more, listed_skip, listed_ended}

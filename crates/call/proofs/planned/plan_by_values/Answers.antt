@@ -9,13 +9,13 @@ use Rattle.call.proofs.Gathering.{all_in_band}
 use native.Mathlib.Omega.{arith}
 use Rattle.call.proofs.planned.plan_by_values.Goals as goal
 
-pub returns-in-Of : goal.returns-in-Of
-returns-in-Of c kinds wraps nums ats lens band counted numbered =
+pub returns-in-Some : goal.returns-in-Some
+returns-in-Some c kinds wraps nums ats lens band counted numbered =
     let a = c.args in
     let values = c.are_values.ensures c.if-are_values.true in
     let all = all_in_band (columns a.rows.now a.cols.now kinds wraps nums ats lens) band a.floats.now numbered
     c.requires.cols_value.4 values.1 (sym counted ∙ values.0) in
-    planned_is _ _ _ (sym c.in-Of.is ∙ c.plan_of_numbers.ensures) ∙ ap (plan_of_values _) all
+    planned_is _ _ _ (sym c.in-Some.is ∙ c.plan_of_numbers.ensures) ∙ ap (plan_of_values _) all
 
 pub slice_bounds-plan_of_values-end-2 : goal.slice_bounds-plan_of_values-end-2
 slice_bounds-plan_of_values-end-2 c =

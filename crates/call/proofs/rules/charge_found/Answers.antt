@@ -1,38 +1,36 @@
--- `call::rules::charge_found` meets its contract: a charge was refused ahead of the regions, one is refused among them, or all are
--- accepted. Assumes nothing.
+-- `call::rules::charge_found` meets its contract: a charge is refused, ahead of the regions or among them, or all are accepted.
+-- Assumes nothing.
+use Prim.Native.Nat.{ℕ}
 use native.Mathlib.Omega.{arith}
-use Rattle.turns.specs.Step.{judged_as}
-use Rattle.turns.proofs.Stepping.{cond_few}
-use Rattle.call.proofs.Deciding.{decides_same, refused_alike, refused_among, accepted_decides}
-use borrow.Enum.Refused.{opened}
+use mathlib.Core.Path.{◌≡◌, sym, ◌∙◌}
+use lib.ListN.{replicate}
+use borrow.Author.Rules.{rules}
+use Rattle.std.specs.Option.{is_some}
+use Rattle.charging.specs.Charge.{one, and_then, spend}
+use Rattle.call.proofs.Deciding.{refused_decides, accepted_decides}
+use Rattle.call.proofs.Parting.{told_then}
 use Rattle.call.proofs.rules.charge_found.Goals as goal
+use Rattle.call.proofs.rules.charge_found.Goals.{After-and_then-all}
 
-pub returns-in_default : goal.returns-in_default
-returns-in_default c =
-    let none = c.untested.ensures in record {
-      decided = λ os imported values hits counted front paints.
-          decides_same imported values hits _ _ _ (refused_alike _ _ _ _ (judged_as os _ _) _ (opened c.in_default.in_default-own.keys2))
-          (none.decided _ imported values hits);
-      few = (omega (arith, none.few.0), none.few.1, omega (arith, none.few.2));
-    }
+charged : (c : After-and_then-all) → let a = c.args in
+    c.and_then-all.result ≡ and_then a.charged (λ (n : ℕ). spend a.limit n (replicate a.asked one))
+charged c = told_then _ _ _ _ c.and_then-all.ensures (λ n e p. search rules)
 
-pub returns-in_default-all : goal.returns-in_default-all
-returns-in_default-all c =
-    let none = c.untested-in_default-all.ensures in record {
+pub returns-then-is_err : goal.returns-then-is_err
+returns-then-is_err c =
+    let a = c.args in record {
       decided = λ os imported values hits counted front paints.
-          rw c.in-Within.is
-          (decides_same imported values hits _ _ _
-          (refused_among _ _ _ _ (judged_as os _ _) _ _ c.charge_times-all.ensures (opened c.in_default-all.in_default-all-own.keys2))
-          (none.decided _ imported values hits));
-      few = (omega (arith, none.few.0), none.few.1, omega (arith, none.few.2));
+          refused_decides a.limit a.test os a.asked (is_some a.found.unresolved) imported values hits a.charged _ (charged (goal.at.returns-then-is_err c).After-and_then-all)
+          (sym c.is_err.ensures.value ∙ c.if-is_err.true) _ (c.untested.ensures.decided a.limit imported values hits);
+      few = omega (arith, c.untested.ensures.none);
     }
 
 pub returns : goal.returns
 returns c =
     let a = c.args in record {
       decided = λ os imported values hits counted front paints.
-          rw (c.in-Within.is, c.one_if.ensures, c.one_if-2.ensures, c.is_bar_test.ensures)
-          (accepted_decides _ _ os _ _ imported values hits _ _ _ c.charge_times-all.ensures c.in-Within-all.is _ counted
-          front paints);
-      few = (omega arith, rw c.one_if.ensures (cond_few a.found.unresolved), rw c.one_if-2.ensures (cond_few c.is_bar_test.result));
+          rw (c.is_some.ensures, c.is_bar_test.ensures)
+          (accepted_decides a.limit a.test os a.asked (is_some a.found.unresolved) imported values hits a.charged _ (charged (goal.at.returns c).After-and_then-all)
+          (sym c.is_err.ensures.value ∙ c.if-is_err.false) _ counted front paints);
+      few = omega arith;
     }

@@ -1,11 +1,12 @@
 -- `call::rules::decide` meets its contract: the bands of the rule's rows, the cells in range, the charges ahead of the regions, the plan
 -- where they are accepted, and by the plan a rule without outcomes or the hits of its test. Assumes nothing.
+use Rattle.std.specs.Prelude.{Ok}
 use Prim.Native.Nat.{ℕ}
 use native.Mathlib.Omega.{arith}
 use mathlib.Core.Path.{◌≡◌, sym, ◌∙◌}
 use mathlib.Core.List.{List}
 use lib.ListN.{length}
-use Rattle.charging.specs.declared.Charged.{Charged}
+use Rattle.charging.specs.Charge.{Charged}
 use Rattle.charging.specs.declared.Counter.{Counter}
 use Rattle.model.specs.Sheet.{Sheet, CellColumns}
 use Rattle.model.specs.Rule.{plan}
@@ -62,17 +63,17 @@ module _ (c : After-plan_within-plan) where
         let r = c.args.rule in
         CellsCounted r.kind r.range cells c.cells_asked-inside.result
 
-    counted : (n : Counter) → c.args.charged ≡ Charged.Within n → AsCounted
+    counted : (n : Counter) → c.args.charged ≡ Ok n → AsCounted
     counted n e = c.cells_asked-inside.ensures _ kinds wraps nums ats lens n e c.band_of-band.ensures
 
     ahead : let a = c.args in spent ≡ ahead_of_regions sheet a.rule a.limit a.charged
     ahead = c.charge_after-spent.ensures cells _ _ _ counted
 
     -- where the charges ahead of the regions are accepted, those before them were
-    counted_within : (n : Counter) → spent ≡ Charged.Within n → AsCounted
+    counted_within : (n : Counter) → spent ≡ Ok n → AsCounted
     counted_within n e = let first = accepted_before _ _ n (sym ahead ∙ e) in counted first.0 first.1
 
-    planned : AsTabled → (n : Counter) → spent ≡ Charged.Within n → c.plan_within-plan.result ≡ plan sheet c.args.rule
+    planned : AsTabled → (n : Counter) → spent ≡ Ok n → c.plan_within-plan.result ≡ plan sheet c.args.rule
     planned tabled n e =
         c.plan_within-plan.ensures.plan kinds wraps nums ats lens _ _ _ n e banded (counted_within n e) tabled.numbered tabled.coded
 
@@ -129,8 +130,8 @@ returns-in-Deferred c =
       decided = λ kinds wraps nums ats lens tabled.
           by_deferred _ _ _ _ _ _ _ _ (ahead at kinds wraps nums ats lens) _ (planned at kinds wraps nums ats lens tabled) _ _ _
           c.in-Deferred.is (none.decided a.limit a.rule.imported a.values.now a.hits.now);
-      few = (omega (arith, none.few.0), none.few.1, omega (arith, none.few.2));
-      hits = λ k h. omega (arith, h, none.few.0);
+      few = omega (arith, none.none);
+      hits = λ k h. omega (arith, h, none.none);
     }
 
 pub returns-in-Skipped : goal.returns-in-Skipped
@@ -141,8 +142,8 @@ returns-in-Skipped c =
       decided = λ kinds wraps nums ats lens tabled.
           by_skipped _ _ _ _ _ _ _ _ (ahead at kinds wraps nums ats lens) _ (planned at kinds wraps nums ats lens tabled) _ _ _
           c.in-Skipped.is (none.decided a.limit a.rule.imported a.values.now a.hits.now);
-      few = (omega (arith, none.few.0), none.few.1, omega (arith, none.few.2));
-      hits = λ k h. omega (arith, h, none.few.0);
+      few = omega (arith, none.none);
+      hits = λ k h. omega (arith, h, none.none);
     }
 
 pub returns-in-Tested : goal.returns-in-Tested

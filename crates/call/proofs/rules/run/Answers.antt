@@ -203,9 +203,10 @@ run_rules-ran-requires c =
     }
 
 pub returns : goal.returns
+unfolding of_bits
 returns c =
     let a = c.args in record {
       run = c.run_rules-ran.ensures.run a.kinds.now a.wraps.now a.nums.now a.ats.now a.lens.now
           (tabled (goal.at.returns c).After-codes_for-codes);
-      scratch = c.clear_f64.ensures ∙ ap (λ (n : ℕ). replicate n zero_f) c.run_rules-ran.auto.scratch;
+      scratch = c.fill.ensures.after (λ y h. h) ∙ ap (λ (n : ℕ). replicate n zero_f) c.run_rules-ran.auto.scratch;
     }

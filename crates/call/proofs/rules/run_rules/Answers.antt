@@ -1,4 +1,4 @@
-use Prim.Native.Nat.{ℕ, ◌-◌, ◌≤◌, ◌<◌}
+use Prim.Native.Nat.{ℕ, ◌≤◌, ◌<◌}
 use mathlib.Core.Path.{◌≡◌, refl, sym, ap, ◌∙◌}
 use mathlib.Core.List.{List}
 use native.Mathlib.Omega.{arith}
@@ -32,18 +32,12 @@ loop-k-init c = (
     scratch = refl;
     flagged = length-replicate {A = ℕ} 1024 0;
   },
-  omega arith,
   length-replicate {A = Float} 1024 zero_f,
   length-replicate {A = Float} 1024 zero_f,
   length-replicate {A = ℕ} 1024 0,
   length-replicate {A = ℕ} 1025 0,
   sym (live_zeros (replicate 1024 0) (zeros_at 1024) _),
 )
-
-pub bounds-order-k : goal.bounds-order-k
-bounds-order-k c =
-    let few = c.requires.order_value.2 in
-    omega (arith, c.loop-k-test.true, few)
 
 pub overflow_cast-at : goal.overflow_cast-at
 overflow_cast-at c =
@@ -61,16 +55,16 @@ bounds-rules-at c =
     omega (arith, pre.2, record_within _ _ _ _ pre.0 pre.1 c.loop-k-test.true)
 
 pub slice_bounds-turn-end : goal.slice_bounds-turn-end
-slice_bounds-turn-end c = sym c.loop-k.invariant.4
+slice_bounds-turn-end c = sym c.loop-k.invariant.3
 
 pub slice_bounds-turn-end-in-loop-k : goal.slice_bounds-turn-end-in-loop-k
-slice_bounds-turn-end-in-loop-k c = sym c.loop-k.invariant.5
+slice_bounds-turn-end-in-loop-k c = sym c.loop-k.invariant.4
 
 pub slice_bounds-turn-end-in-loop-k-2 : goal.slice_bounds-turn-end-in-loop-k-2
-slice_bounds-turn-end-in-loop-k-2 c = sym c.loop-k.invariant.6
+slice_bounds-turn-end-in-loop-k-2 c = sym c.loop-k.invariant.5
 
 pub slice_bounds-turn-end-in-loop-k-3 : goal.slice_bounds-turn-end-in-loop-k-3
-slice_bounds-turn-end-in-loop-k-3 c = sym c.loop-k.invariant.7
+slice_bounds-turn-end-in-loop-k-3 c = sym c.loop-k.invariant.6
 
 pub slice_bounds-turn-end-in-loop-k-4 : goal.slice_bounds-turn-end-in-loop-k-4
 slice_bounds-turn-end-in-loop-k-4 c = sym c.loop-k.invariant.2.flagged
@@ -90,19 +84,19 @@ turn-ran-requires c =
       );
       cols_value = c.requires.cols_value;
       by_index = (cells.0, cells.1, omega (arith, cells.2, inv.2.scratch), c.all_numeric-numeric.ensures);
-      region_cols_value = (regions.0, inv.8);
+      region_cols_value = (regions.0, inv.7);
       hits_value = fits_hits_lem 0 (length a.region_rows.now) (known a.values.now at.firsts at.seconds at.founds)
           a.region_cols.now at.flags (length at.hits)
           (record {
             ordered = omega arith;
             few = regions.1;
-            within = omega (arith, regions.1, inv.7);
+            within = omega (arith, regions.1, inv.6);
             for_cols = regions.2;
             for_flags = omega (arith, regions.1, inv.2.flagged);
             for_values = regions.3;
-            for_firsts = omega (arith, regions.1, inv.4);
-            for_seconds = omega (arith, regions.1, inv.5);
-            for_founds = omega (arith, regions.1, inv.6);
+            for_firsts = omega (arith, regions.1, inv.3);
+            for_seconds = omega (arith, regions.1, inv.4);
+            for_founds = omega (arith, regions.1, inv.5);
           });
     }
 
@@ -123,12 +117,6 @@ slice_bounds-flags-end c = within (goal.at.slice_bounds-flags-end c).After-turn-
 
 pub slice_bounds-live-end : goal.slice_bounds-live-end
 slice_bounds-live-end c = sym (length-take-le _ _ (within (goal.at.slice_bounds-live-end c).After-turn-ran))
-
-pub overflow_add-k : goal.overflow_add-k
-overflow_add-k c = omega (arith, c.loop-k-test.true, c.requires.order_value.2)
-
-pub loop-k-smaller : goal.loop-k-smaller
-loop-k-smaller c = omega (arith, c.loop-k-test.true)
 
 pub loop-k-preserved : goal.loop-k-preserved
 loop-k-preserved c =
@@ -158,14 +146,13 @@ loop-k-preserved c =
         scratch = k.scratch ∙ v.scratch;
         flagged = flags_long done;
       },
-      omega (arith, below),
-      k.firsts ∙ inv.4,
-      k.seconds ∙ inv.5,
-      k.founds ∙ inv.6,
-      k.hits ∙ inv.7,
+      k.firsts ∙ inv.3,
+      k.seconds ∙ inv.4,
+      k.founds ∙ inv.5,
+      k.hits ∙ inv.6,
       elim c.if-rule.branch [
         | then-rule w ↦ w.alive-is ∙ w.live-alive.ensures ∙ live_front (flags done) _ (within done)
-        | else-rule w ↦ w.alive-is ∙ inv.8 ∙ ap (λ (l : List ℕ). live_from l 0 regions) (sym (told.flags w.if-rule.false))
+        | else-rule w ↦ w.alive-is ∙ inv.7 ∙ ap (λ (l : List ℕ). live_from l 0 regions) (sym (told.flags w.if-rule.false))
       ],
     )
 
@@ -173,7 +160,7 @@ pub returns : goal.returns
 returns c =
     let at = c.loop-k in
     let end : at.k ≡ length (ordered_rules c.args.rules) =
-    omega (arith, at.invariant.3, c.loop-k-test.false, c.requires.order_value.1) in record {
+    omega (arith, c.requires.order_value.1) in record {
       run = λ kinds wraps nums ats lens tabled.
           rw c.none_yet-ran.ensures at
           (ap left_by (running_ended _ _ _ _ at.k end (at.invariant.0 kinds wraps nums ats lens tabled)));

@@ -1,7 +1,7 @@
 -- `call::rules::run_rules` meets its contract. The loop's invariant: where the tables are right for all rules, the rules left come, from
 -- the state that the loop has, to what all rules come to from the start; the counts stay small; the columns and tables keep their lengths;
--- and how many regions are not stopped is known. A turn takes the next rule. The measure is how many rules are left. Assumes nothing.
-use Prim.Native.Nat.{ℕ, ◌-◌, ◌≤◌}
+-- and how many regions are not stopped is known. A turn takes the next rule. Assumes nothing.
+use Prim.Native.Nat.{ℕ}
 use mathlib.Core.Path.{◌≡◌}
 use mathlib.Core.List.{List}
 use lib.ListN.{length}
@@ -24,9 +24,6 @@ invariant-loop-k l = let marks₀ = mark_columns l.initial.regions l.initial.rul
     → Running (say_in (sheet_in (columns l.rows l.cols kinds wraps nums ats lens) l.region_rows l.region_cols l.pool l.sheet) l.limit l.region_rows
     l.region_cols)
     l.rules (state_of l.initial.ran l.initial.flags marks₀ bars₀) (state_of l.ran l.flags marks bars) l.k)
-    × Small l.ran l.k × Kept marks₀ marks bars₀ bars l.initial.scratch l.scratch l.flags × (l.k ≤ l.count)
+    × Small l.ran l.k × Kept marks₀ marks bars₀ bars l.initial.scratch l.scratch l.flags
     × (length l.firsts ≡ 1024) × (length l.seconds ≡ 1024) × (length l.founds ≡ 1024) × (length l.hits ≡ 1025)
     × (l.alive ≡ live_from l.flags 0 (length l.region_rows))
-
-abbrev pub decreases-loop-k : goal.decreases-loop-k
-decreases-loop-k l = l.count - l.k

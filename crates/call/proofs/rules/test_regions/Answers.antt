@@ -1,6 +1,7 @@
 -- `call::rules::test_regions` meets its contract. Where all regions are stopped none is asked and none is painted. Else the band has room
 -- at the front of the table of hits, by which the hits are few and each is a region, whatever is known of them. By the tables of the sheet
 -- what is found in the band is what the test says of all regions. Assumes nothing.
+use Rattle.std.specs.Prelude.{Option, Some, None, IfSome}
 use Prim.Native.Nat.{ℕ, ◌+◌, ◌-◌, ◌≤◌, ◌<◌}
 use native.Mathlib.Omega.{arith}
 use mathlib.Core.Path.{◌≡◌, refl, sym, ap, ◌∙◌}
@@ -21,6 +22,10 @@ use Rattle.call.proofs.Rulewise.{fits_hits_lem}
 use Rattle.call.proofs.Deciding.{known_by, found_within, found_few, found_front, found_below, found_decides, stopped_decides}
 use Rattle.call.proofs.rules.test_regions.Goals as goal
 use Rattle.call.proofs.rules.test_regions.Goals.{After-find_operands, After-find_within-found, Start}
+
+when_some : (o : Option ℕ) (n : ℕ) → ((i : ℕ) → o ≡ Some i → i < n) → IfSome o (λ i. i < n)
+when_some (Some i) n h = h i refl
+when_some None n h = tt
 
 -- ---- as it comes
 
@@ -97,15 +102,15 @@ module _ (c : After-find_within-found) where
   abbrev rest : List ℕ
   rest = drop (room start) c.args.hits.now
 
-  within : found.unresolved ≡ true → found.at < length c.args.flags.now
-  within some =
+  within : (at : ℕ) → found.unresolved ≡ Some at → at < length c.args.flags.now
+  within at some =
       let a = c.args in
       omega (
         arith,
         (band start).within,
         (fit start).for_flags,
         found_within (table meaning) a.rule.range a.test a.rule.imported a.region_cols.now a.flags.now
-            a.regions.from a.regions.to found true refl (c.find_within-found.ensures.found a.rule.imported) (band start).ordered
+            a.regions.from a.regions.to found (c.find_within-found.ensures.found a.rule.imported) (band start).ordered at
             some,
       )
 
@@ -120,14 +125,14 @@ returns-then-alive-eq0 c =
     let found = c.nothing_found.result in
     let is = c.nothing_found.ensures in
     let charged = c.charge_found.ensures in
-    let no-hits : c.charge_found.result.count ≡ 0 = omega (arith, charged.few.0, ap (λ (f : Found). f.count) is) in
+    let no-hits : c.charge_found.result.count ≡ 0 = omega (arith, charged.few, ap (λ (f : Found). f.count) is) in
     let none : live_from flags 0 (length rows) ≡ 0 = sym c.requires.region_cols_value.2 ∙ c.if-alive-eq0.true in record {
       decided = λ kinds wraps nums ats lens numbered valued counted.
           let cells = columns a.rows.now a.cols.now kinds wraps nums ats lens in
           let sheet = sheet_in cells rows cols a.pool.now a.sheet in
           stopped_decides sheet a.rule a.test rows cols flags none found is a.values.now a.hits.now a.limit a.charged
           c.charge_found.result (λ os. charged.decided os a.rule.imported a.values.now a.hits.now);
-      few = (omega (arith, no-hits), charged.few.1, charged.few.2);
+      few = omega (arith, no-hits);
       hits = λ k h. omega (arith, h, no-hits);
     }
 
@@ -158,7 +163,9 @@ find_within-found-requires c =
     }
 
 pub asked_of-requires : goal.asked_of-requires
-asked_of-requires c = within (goal.at.asked_of-requires c).After-find_within-found
+asked_of-requires c =
+    let e = (goal.at.asked_of-requires c).After-find_within-found in
+    when_some (found e).unresolved (length c.args.flags.now) (within e)
 
 pub returns : goal.returns
 returns c =
@@ -178,7 +185,7 @@ returns c =
     let held = c.find_within-found.ensures.hits imported in
     let most : to - from ≤ large (meaning at) = omega (arith, cut begun) in
     let few = c.charge_found-2.ensures.few in
-    let count = found_few (table (meaning at)) range a.test imported cols flags from to (found at) true refl is in record {
+    let count = found_few (table (meaning at)) range a.test imported cols flags from to (found at) is in record {
       decided = λ kinds wraps nums ats lens numbered valued counted.
           let cells = columns a.rows.now a.cols.now kinds wraps nums ats lens in
           let sheet = sheet_in cells rows cols a.pool.now a.sheet in
@@ -186,15 +193,15 @@ returns c =
           let knows = known_by cells a.pool.now a.sheet (regions_from rows cols 0 (length rows)) range a.test rows cols (table (meaning at))
           valued (meant.first kinds wraps nums ats lens values a.founds.now numbered valued)
           (meant.second kinds wraps nums ats lens values a.founds.now numbered valued) counted in
-          found_decides sheet a.rule a.test rows cols flags (table (meaning at)) knows (band begun) (found at) true refl is
+          found_decides sheet a.rule a.test rows cols flags (table (meaning at)) knows (band begun) (found at) is
           a.alive c.asked_of.result c.requires.region_cols_value.2 c.asked_of.ensures hits
-          (found_front (table (meaning at)) range a.test imported cols flags from to (found at) true refl is (large (meaning at)) most (page at)
+          (found_front (table (meaning at)) range a.test imported cols flags from to (found at) is (large (meaning at)) most (page at)
           (rest at) held) a.limit a.charged c.charge_found-2.result (λ os. c.charge_found-2.ensures.decided os imported values hits);
-      few = (omega (arith, few.0, count, (band begun).within), few.1, few.2);
+      few = omega (arith, few, count, (band begun).within);
       hits = λ k h. omega (
         arith,
         (band begun).within,
-        found_below (table (meaning at)) range a.test imported cols flags from to (found at) true refl is (large (meaning at)) most (page at)
-            (rest at) held (band begun).ordered k (omega (arith, h, few.0)),
+        found_below (table (meaning at)) range a.test imported cols flags from to (found at) is (large (meaning at)) most (page at)
+            (rest at) held (band begun).ordered k (omega (arith, h, few)),
       );
     }

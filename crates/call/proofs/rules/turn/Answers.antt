@@ -3,7 +3,7 @@
 -- makes up the definition's turn. Assumes nothing.
 use Prim.Native.Nat.{ℕ, ◌≤◌, ◌<◌}
 use native.Mathlib.Omega.{arith}
-use mathlib.Core.Path.{sym}
+use mathlib.Core.Path.{sym, ◌∙◌}
 use mathlib.Core.List.{List}
 use lib.ListN.{length, get_or, take}
 use lib.Seq.{length-take-le}
@@ -11,7 +11,8 @@ use Rattle.hits.specs.Hits.{known}
 use Rattle.hits.proofs.Finding.{Fitting, fitting}
 use Rattle.turns.specs.Emit.{mark_columns, bar_columns}
 use Rattle.turns.specs.Turns.{state_of, indexed}
-use Rattle.call.proofs.Turning.{front_below, flags_kept, turn_decided}
+use Rattle.ranges.proofs.Laws.{byte_few}
+use Rattle.call.proofs.Turning.{front_below, flags_kept, byte_is, turn_decided}
 use Rattle.call.proofs.rules.turn.Goals as goal
 use Rattle.call.proofs.rules.turn.Goals.{After-decide-said}
 
@@ -27,10 +28,10 @@ fit : (c : After-decide-said) → let a = c.args in
 fit c = fitting _ _ _ _ _ _ c.requires.hits_value
 
 short : (c : After-decide-said) → c.decide-said.result.count ≤ length (hits c)
-short c = omega (arith, c.decide-said.ensures.few.0, (fit c).within, c.decide-said.auto.hits)
+short c = omega (arith, c.decide-said.ensures.few, (fit c).within, c.decide-said.auto.hits)
 
 few : (c : After-decide-said) → c.decide-said.result.count ≤ 1024
-few c = omega (arith, c.decide-said.ensures.few.0, (fit c).few)
+few c = omega (arith, c.decide-said.ensures.few, (fit c).few)
 
 below : (c : After-decide-said) → let front = take c.decide-said.result.count (hits c) in
     (k : ℕ) → k < length front → get_or front k 0 < length c.args.values.now
@@ -68,10 +69,10 @@ pub overflow_add-result : goal.overflow_add-result
 overflow_add-result c = omega (arith, few (goal.at.overflow_add-result c).After-decide-said, c.requires.marks_bound.0)
 
 pub overflow_add-result-2 : goal.overflow_add-result-2
-overflow_add-result-2 c = omega (arith, c.decide-said.ensures.few.1, c.requires.marks_bound.1)
+overflow_add-result-2 c = omega (arith, c.from.ensures, byte_few c.decide-said.result.deferred, c.requires.marks_bound.1)
 
 pub overflow_add-result-3 : goal.overflow_add-result-3
-overflow_add-result-3 c = omega (arith, c.decide-said.ensures.few.2, c.requires.marks_bound.2)
+overflow_add-result-3 c = omega (arith, c.from-2.ensures, byte_few c.decide-said.result.simplified, c.requires.marks_bound.2)
 
 pub returns : goal.returns
 returns c =
@@ -79,10 +80,15 @@ returns c =
     let a = c.args in
     let marks = mark_columns a.regions.now a.ruleids.now a.markkinds.now a.colours.now a.ppms.now a.shapes.now in
     let st = state_of a.ran a.flags.now marks (bar_columns a.barrules.now a.barppms.now) in
+    let d = c.decide-said.result in
     let said = c.decide-said.ensures in record {
       turn = λ kinds wraps nums ats lens tabled. turn_decided (indexed a.index a.rule) _ st a.values.now (hits s) c.decide-said.result
           (said.decided kinds wraps nums ats lens tabled) _ _ _ c.stop_regions.ensures c.put_marks.ensures
-          c.draw_bars.ensures;
+          c.draw_bars.ensures _ _ (c.from.ensures ∙ byte_is d.deferred) (c.from-2.ensures ∙ byte_is d.simplified);
       flags = flags_kept a.rule.stop (take c.decide-said.result.count (hits s)) a.flags.now _ c.stop_regions.ensures;
-      few = (omega (arith, few s), omega (arith, said.few.1), omega (arith, said.few.2));
+      few = (
+        omega (arith, few s),
+        omega (arith, c.from.ensures, byte_few d.deferred),
+        omega (arith, c.from-2.ensures, byte_few d.simplified),
+      );
     }

@@ -1,18 +1,25 @@
 -- `Counter::charge_one` meets its contract: its three returns are the three outcomes of a charge. Assumes nothing.
+use Prim.Native.Nat.{◌+◌}
 use native.Mathlib.Omega.{arith}
-use mathlib.Core.Path.{sym}
+use mathlib.Core.Path.{◌≡◌, sym}
 use Rattle.charging.specs.Charge.{one, size, stored}
 use Rattle.charging.proofs.Laws.{charge_overflows, charge_exceeds, charge_within}
 use Rattle.charging.proofs.Counter.charge_one.Goals as goal
 
-pub returns-then-count : goal.returns-then-count
+pub returns-in_default : goal.returns-in_default
 unfolding size
-returns-then-count c = let a = c.args in sym (charge_overflows a.limit a.self.count one (omega arith))
+returns-in_default c = let a = c.args in sym (charge_overflows a.limit a.self.count one (omega arith))
 
 pub returns-then-limit-raised : goal.returns-then-limit-raised
 unfolding size stored
-returns-then-limit-raised c = let a = c.args in sym (charge_exceeds a.limit a.self.count one (omega arith) (omega arith))
+returns-then-limit-raised c =
+    let a = c.args in
+    let sum : c.in-Some.raised ≡ a.self.count + 1 = omega arith in
+    rw sum (sym (charge_exceeds a.limit a.self.count one (omega arith) (omega arith)))
 
 pub returns : goal.returns
 unfolding size
-returns c = let a = c.args in sym (charge_within a.limit a.self.count one (omega arith) (omega arith))
+returns c =
+    let a = c.args in
+    let sum : c.in-Some.raised ≡ a.self.count + 1 = omega arith in
+    rw sum (sym (charge_within a.limit a.self.count one (omega arith) (omega arith)))

@@ -1,31 +1,14 @@
-use mathlib.Core.Path.{refl, sym, ◌∙◌}
-use native.Mathlib.Omega.{arith}
-use borrow.Author.Rules.{rules}
-use Rattle.checks.proofs.Searching.{rule_found, rule_passed, rules_ended, length_mapped}
+-- `checks::names::first_bad_rule` meets its contract. Assumes nothing.
+use Rattle.std.proofs.Common.{◌∙◌, take, rules, tests}
+use Rattle.std.proofs.lemmas.Iterator.{YieldsList-from_slice}
+use Rattle.std.proofs.lemmas.Iterator.Search.{position_from_yields_List}
+use Rattle.model.specs.declared.Rule.{Rule}
+use Rattle.model.specs.Job.{bad_kind}
+use Rattle.checks.proofs.Searching.{first_rule}
 use Rattle.checks.proofs.names.first_bad_rule.Goals as goal
 
-pub loop-i-init : goal.loop-i-init
-loop-i-init c = (search (rules, length_mapped), refl)
-
-pub returns-then-bad_kind : goal.returns-then-bad_kind
-returns-then-bad_kind c =
-    let inv = c.loop-i.invariant in
-    rule_found _ _ _ _ _ inv.1 (omega arith) c.if-i-number.true (sym c.bad_kind.ensures ∙ c.if-bad_kind.true)
-
-pub loop-i-preserved : goal.loop-i-preserved
-loop-i-preserved c =
-    let inv = c.loop-i.invariant in
-    let passed = sym c.bad_kind.ensures ∙ c.if-bad_kind.false in
-    (inv.0, rule_passed _ _ _ _ _ inv.1 (omega arith) c.if-i-number.true passed)
-
-pub returns-else-i-number : goal.returns-else-i-number
-returns-else-i-number c =
-    let loop = c.loop-i in
-    let rules = c.args.rules in
-    rules_ended _ rules.records rules.number loop.i loop.invariant.1 (omega arith)
-
-pub returns-after-loop-i : goal.returns-after-loop-i
-returns-after-loop-i c =
-    let loop = c.loop-i in
-    let rules = c.args.rules in
-    rules_ended _ rules.records rules.number loop.i loop.invariant.1 (omega arith)
+pub returns : goal.returns
+returns c =
+    position_from_yields_List (λ (r : Rule). bad_kind c.args.pool.now r.kind) _ _ _ c.position.ensures.ran
+    (YieldsList-from_slice (take c.args.rules.now.number c.args.rules.now.records) cc) (λ x b q k. search (rules, tests))
+    ∙ first_rule c.args.pool.now _

@@ -1,21 +1,16 @@
-use mathlib.Core.Path.{sym, ◌∙◌}
-use native.Mathlib.Nat.{sub-zero}
-use Rattle.checks.proofs.Searching.{number_found, number_passed, numbers_ended}
+-- `checks::sheet::first_bad_cell` meets its contract. Where `any_bad_cell` tells of none, there is no first. Assumes nothing.
+use Rattle.std.proofs.Common.{refl, length, rules, tests}
+use Rattle.std.proofs.lemmas.Iterator.{YieldsList-from_range}
+use Rattle.std.proofs.lemmas.Iterator.Search.{find_from_yields_List}
+use Rattle.model.specs.Lent.{cells_lent}
+use Rattle.model.specs.Job.{bad_cell_at}
+use Rattle.checks.proofs.Searching.{find_first}
 use Rattle.checks.proofs.sheet.first_bad_cell.Goals as goal
 
-pub returns-then-not-any_bad_cell : goal.returns-then-not-any_bad_cell
-returns-then-not-any_bad_cell c = c.any_bad_cell.ensures (c.if-not-any_bad_cell.true)
-
-pub loop-cell-init : goal.loop-cell-init
-loop-cell-init c = rw sub-zero
-
-pub returns-then-bad_cell_at : goal.returns-then-bad_cell_at
-returns-then-bad_cell_at c =
-    number_found _ _ _ c.loop-cell.invariant c.loop-cell-test.true (sym c.bad_cell_at.ensures ∙ c.if-bad_cell_at.true)
-
-pub loop-cell-preserved : goal.loop-cell-preserved
-loop-cell-preserved c =
-    number_passed _ _ _ c.loop-cell.invariant c.loop-cell-test.true (sym c.bad_cell_at.ensures ∙ c.if-bad_cell_at.false)
-
 pub returns : goal.returns
-returns c = numbers_ended _ _ _ c.loop-cell.invariant c.loop-cell-test.false
+returns c =
+    let a = c.args in
+    let n = length a.cells.rows.now in
+    let test = bad_cell_at a.pool.now (cells_lent a.cells) in
+    find_first test 0 n
+    (find_from_yields_List test _ _ _ c.find.ensures.ran (YieldsList-from_range 0 n n refl (search rules)) (λ x b q k. search (rules, tests)))

@@ -1,21 +1,15 @@
-use mathlib.Core.Path.{sym, ◌∙◌}
-use native.Mathlib.Nat.{sub-zero}
-use Rattle.checks.proofs.Searching.{number_found, number_passed, numbers_ended}
+-- `checks::sheet::first_bad_region` meets its contract. Where `any_bad_region` tells of none, there is no first. Assumes nothing.
+use Rattle.std.proofs.Common.{refl, length, rules, tests}
+use Rattle.std.proofs.lemmas.Iterator.{YieldsList-from_range}
+use Rattle.std.proofs.lemmas.Iterator.Search.{find_from_yields_List}
+use Rattle.model.specs.Job.{bad_region_at}
+use Rattle.checks.proofs.Searching.{find_first}
 use Rattle.checks.proofs.sheet.first_bad_region.Goals as goal
 
-pub returns-then-not-any_bad_region : goal.returns-then-not-any_bad_region
-returns-then-not-any_bad_region c = c.any_bad_region.ensures (c.if-not-any_bad_region.true)
-
-pub loop-region-init : goal.loop-region-init
-loop-region-init c = rw sub-zero
-
-pub returns-then-bad_region_at : goal.returns-then-bad_region_at
-returns-then-bad_region_at c =
-    number_found _ _ _ c.loop-region.invariant c.loop-region-test.true (sym c.bad_region_at.ensures ∙ c.if-bad_region_at.true)
-
-pub loop-region-preserved : goal.loop-region-preserved
-loop-region-preserved c =
-    number_passed _ _ _ c.loop-region.invariant c.loop-region-test.true (sym c.bad_region_at.ensures ∙ c.if-bad_region_at.false)
-
 pub returns : goal.returns
-returns c = numbers_ended _ _ _ c.loop-region.invariant c.loop-region-test.false
+returns c =
+    let a = c.args in
+    let n = length a.regions.rows.now in
+    let test = bad_region_at a.regions.rows.now a.regions.cols.now in
+    find_first test 0 n
+    (find_from_yields_List test _ _ _ c.find.ensures.ran (YieldsList-from_range 0 n n refl (search rules)) (λ x b q k. search (rules, tests)))

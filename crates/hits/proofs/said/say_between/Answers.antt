@@ -1,4 +1,3 @@
-use Prim.Native.Nat.{◌-◌}
 use native.Mathlib.Omega.{arith}
 use mathlib.Core.Logic.{inl, inr}
 use lib.Ieee.{nan}
@@ -10,33 +9,6 @@ use Rattle.hits.proofs.said.say_between.Goals.{then-missing, else-missing}
 
 pub loop-i-init : goal.loop-i-init
 loop-i-init c = stored_none _ _ _
-
-pub offset_bounds-values-i : goal.offset_bounds-values-i
-offset_bounds-values-i c = omega arith
-
-pub bounds-values-i : goal.bounds-values-i
-bounds-values-i c = omega arith
-
-pub offset_bounds-lows-i : goal.offset_bounds-lows-i
-offset_bounds-lows-i c = omega arith
-
-pub bounds-lows-i : goal.bounds-lows-i
-bounds-lows-i c = omega arith
-
-pub offset_bounds-highs-i : goal.offset_bounds-highs-i
-offset_bounds-highs-i c = omega arith
-
-pub bounds-highs-i : goal.bounds-highs-i
-bounds-highs-i c = omega arith
-
-pub bounds-said-i : goal.bounds-said-i
-bounds-said-i c = omega arith
-
-pub overflow_add-i : goal.overflow_add-i
-overflow_add-i c = omega arith
-
-pub loop-i-smaller : goal.loop-i-smaller
-loop-i-smaller c = omega arith
 
 pub loop-i-preserved : goal.loop-i-preserved
 loop-i-preserved c =

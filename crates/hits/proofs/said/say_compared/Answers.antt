@@ -1,4 +1,3 @@
-use Prim.Native.Nat.{◌-◌}
 use native.Mathlib.Omega.{arith}
 use mathlib.Core.Logic.{inl, inr}
 use lib.Ieee.{nan}
@@ -10,27 +9,6 @@ use Rattle.hits.proofs.said.say_compared.Goals.{then-missing, else-missing}
 
 pub loop-i-init : goal.loop-i-init
 loop-i-init c = stored_none _ _ _
-
-pub offset_bounds-left-i : goal.offset_bounds-left-i
-offset_bounds-left-i c = omega arith
-
-pub bounds-left-i : goal.bounds-left-i
-bounds-left-i c = omega arith
-
-pub offset_bounds-right-i : goal.offset_bounds-right-i
-offset_bounds-right-i c = omega arith
-
-pub bounds-right-i : goal.bounds-right-i
-bounds-right-i c = omega arith
-
-pub bounds-said-i : goal.bounds-said-i
-bounds-said-i c = omega arith
-
-pub overflow_add-i : goal.overflow_add-i
-overflow_add-i c = omega arith
-
-pub loop-i-smaller : goal.loop-i-smaller
-loop-i-smaller c = omega arith
 
 pub loop-i-preserved : goal.loop-i-preserved
 loop-i-preserved c =

@@ -1,4 +1,3 @@
-use Prim.Native.Nat.{◌-◌}
 use native.Mathlib.Omega.{arith}
 use Rattle.hits.proofs.Bytes.{outside_byte}
 use Rattle.hits.proofs.Stored.{stored_none, stored_more}
@@ -6,21 +5,6 @@ use Rattle.hits.proofs.said.say_outside.Goals as goal
 
 pub loop-i-init : goal.loop-i-init
 loop-i-init c = stored_none _ _ _
-
-pub offset_bounds-values-i : goal.offset_bounds-values-i
-offset_bounds-values-i c = omega arith
-
-pub bounds-values-i : goal.bounds-values-i
-bounds-values-i c = omega arith
-
-pub bounds-said-i : goal.bounds-said-i
-bounds-said-i c = omega arith
-
-pub overflow_add-i : goal.overflow_add-i
-overflow_add-i c = omega arith
-
-pub loop-i-smaller : goal.loop-i-smaller
-loop-i-smaller c = omega arith
 
 pub loop-i-preserved : goal.loop-i-preserved
 loop-i-preserved c =

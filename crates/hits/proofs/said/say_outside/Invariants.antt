@@ -1,5 +1,4 @@
--- `say_outside` meets its contract. The invariant of its loop: the bytes so far are stored. The measure is what is left. Assumes nothing.
-use Prim.Native.Nat.{◌-◌}
+-- `say_outside` meets its contract. The invariant of its loop: the bytes so far are stored. Assumes nothing.
 use mathlib.Core.Bool.{false}
 use lib.Ieee.{nan}
 use lib.ListN.{length, get_or}
@@ -9,6 +8,3 @@ use Rattle.hits.proofs.said.say_outside.Given as goal
 
 abbrev pub invariant-loop-i : goal.invariant-loop-i
 invariant-loop-i l = Stored (λ j. say_interval (interval false l.low l.high) (get_or l.values j nan)) (length l.values) l.initial.said l.said l.i
-
-abbrev pub decreases-loop-i : goal.decreases-loop-i
-decreases-loop-i l = length l.values - l.i

@@ -9,27 +9,12 @@ pub loop-i-init : goal.loop-i-init
 loop-i-init c cols =
     holding_begun c.requires.0 c.requires.1
 
-pub bounds-tags-i : goal.bounds-tags-i
-bounds-tags-i c = omega arith
-
-pub offset_bounds-words-i : goal.offset_bounds-words-i
-offset_bounds-words-i c = omega arith
-
-pub bounds-words-i : goal.bounds-words-i
-bounds-words-i c = omega arith
-
-pub overflow_add-i : goal.overflow_add-i
-overflow_add-i c = omega arith
-
-pub loop-i-smaller : goal.loop-i-smaller
-loop-i-smaller c = omega arith
-
 pub loop-i-preserved : goal.loop-i-preserved
 loop-i-preserved c cols =
     let h = c.loop-i-test.true in
     holding_more (c.loop-i.invariant cols)
     (rw held_length h)
-    (omega (arith, h, c.cell_count-n.ensures))
+    (omega (arith, h, c.cell_count-i-end.ensures))
     (c.conditional_value_key-key.ensures
     ∙ ap (conditional_value_key _) (c.cell_from.ensures _ _)
     ∙ sym (held_at _ _ _ _ h))
@@ -37,5 +22,5 @@ loop-i-preserved c cols =
 
 pub returns : goal.returns
 returns c cols =
-    rw (← c.cell_count-n.ensures)
+    rw (← c.cell_count-i-end.ensures)
     (holding_held (c.loop-i.invariant cols) (rw held_length c.loop-i-test.false) (held_spanned _ _ _))

@@ -7,21 +7,6 @@ use Rattle.keys.proofs.coding.pairwise.Goals as goal
 pub loop-i-init : goal.loop-i-init
 loop-i-init c ks v e = named_begun
 
-pub name_at-requires : goal.name_at-requires
-name_at-requires c = omega arith
-
-pub offset_bounds-codes-i : goal.offset_bounds-codes-i
-offset_bounds-codes-i c = omega arith
-
-pub bounds-codes-i : goal.bounds-codes-i
-bounds-codes-i c = omega arith
-
-pub overflow_add-i : goal.overflow_add-i
-overflow_add-i c = omega arith
-
-pub loop-i-smaller : goal.loop-i-smaller
-loop-i-smaller c = omega arith
-
 pub loop-i-preserved : goal.loop-i-preserved
 loop-i-preserved c ks v e =
     let h : c.loop-i.i < length ks = omega (arith, e, c.loop-i-test.true) in

@@ -1,12 +1,8 @@
--- `ranks::count::all_finite` meets its contract. The loop's invariant: the count so far and that of the values from i on make the
--- count of all between -∞ and ∞, which is the length exactly if all are finite. The measure is what is left of the length. Assumes nothing.
-use Rattle.std.proofs.Common.{◌-◌, ◌&&◌, length}
-use lib.Ieee.{lt}
-use Rattle.ranks.proofs.Counting.{Counted}
+-- The loop's invariant of `ranks::count::all_finite`: the count so far is that of the values ahead of the index. Assumes nothing.
+use Rattle.std.proofs.Common.{◌≡◌, take}
+use Rattle.std.specs.List.{count_by}
+use Rattle.ranks.proofs.Finite.{bounded}
 use Rattle.ranks.proofs.count.all_finite.Given as goal
 
-abbrev pub invariant-loop-i : goal.invariant-loop-i
-invariant-loop-i l = Counted (λ x. lt l.low x && lt x l.high) l.values l.i l.count
-
-abbrev pub decreases-loop-i : goal.decreases-loop-i
-decreases-loop-i l = length l.values - l.i
+abbrev pub invariant-loop-x : goal.invariant-loop-x
+invariant-loop-x l = l.count ≡ count_by (λ x. bounded x) (take l.x-index l.values)

@@ -1,14 +1,14 @@
 -- `rulewriter::operand::put_reference` meets its contract: row, column, what is absolute, and the name. Assumes nothing.
-use Rattle.put.proofs.Laws.{laid_as}
-use Rattle.rulewriter.proofs.Pieces.{laid_on}
+use native.Mathlib.Omega.{arith}
+use Rattle.put.proofs.Laws.{Lent, puts_as, puts_on}
 use Rattle.rulewriter.proofs.Texts.{reference_text}
 use Rattle.rulewriter.proofs.operand.put_reference.Goals as goal
 
 pub returns : goal.returns
 returns c =
-    let lent = c.well_formed.0.1 in
-    laid_as (
-    laid_on c.put_number-row.ensures lent λ lent.
-    laid_on c.put_number-col.ensures lent λ lent.
-    laid_on c.put_number-absolute.ensures lent λ lent. c.put_name.ensures)
+    let lent : Lent c.args.text.now = omega arith in
+    puts_as (
+    puts_on c.put_number.ensures lent λ lent.
+    puts_on c.put_number-2.ensures lent λ lent.
+    puts_on c.put_number-3.ensures lent λ lent. c.put_name.ensures)
     (reference_text _ _ c.absolute_code.ensures)

@@ -1,8 +1,0 @@
--- `checks::refuse_if` meets its contract. Assumes nothing.
-use Rattle.checks.proofs.refuse_if.Goals as goal
-
-pub returns-then-met : goal.returns-then-met
-returns-then-met c = rw c.if-met.true
-
-pub returns-else-met : goal.returns-else-met
-returns-else-met c = rw c.if-met.false

@@ -1,0 +1,92 @@
+// The memory, and a job as it lies there.
+ghost use Rattle.std.specs.Prelude.{◌≡◌};
+ghost use Rattle.jobtext.specs.Read.{read};
+ghost use Rattle.jobmemory.specs.ReadAs.{ReadAs, blank_memory};
+
+use model::{LentCells, LentJob, LentRegions, Rules};
+use reader::{Unread, read_job};
+use rulelines::blank_rules;
+
+// A job as it was read, and its limit.
+#[derive(Clone, Copy)]
+pub struct LimitedJob<'a> {
+    pub job: LentJob<'a>,
+    pub limit: u64,
+}
+
+#[derive(Drop)]
+pub struct JobMemory {
+    rows: [u32; 1024],
+    cols: [u16; 1024],
+    kinds: [u8; 1024],
+    wraps: [u8; 1024],
+    nums: [u64; 1024],
+    ats: [u32; 1024],
+    lens: [u32; 1024],
+    region_rows: [u32; 1024],
+    region_cols: [u16; 1024],
+    pool: [u8; 32768],
+    rules: Rules,
+}
+
+impl JobMemory {
+    pub fn new() -> JobMemory
+        ensures { result ≡ blank_memory }
+    {
+        JobMemory {
+            rows: [0; 1024],
+            cols: [0; 1024],
+            kinds: [0; 1024],
+            wraps: [0; 1024],
+            nums: [0; 1024],
+            ats: [0; 1024],
+            lens: [0; 1024],
+            region_rows: [0; 1024],
+            region_cols: [0; 1024],
+            pool: [0; 32768],
+            rules: blank_rules(),
+        }
+    }
+
+    // The job that a text says, whatever the memory held before.
+    pub fn read<'a>(&'a mut self, text: &[u8]) -> Result<LimitedJob<'a>, Unread>
+        ensures { ReadAs (read text.now) result }
+    {
+        let job = read_job(
+            text,
+            &mut self.rows,
+            &mut self.cols,
+            &mut self.kinds,
+            &mut self.wraps,
+            &mut self.nums,
+            &mut self.ats,
+            &mut self.lens,
+            &mut self.region_rows,
+            &mut self.region_cols,
+            &mut self.pool,
+        )?;
+        self.rules = job.rules;
+        Ok(LimitedJob {
+            job: LentJob {
+                cells: LentCells {
+                    rows: &self.rows[..job.cells],
+                    cols: &self.cols[..job.cells],
+                    kinds: &self.kinds[..job.cells],
+                    wraps: &self.wraps[..job.cells],
+                    nums: &self.nums[..job.cells],
+                    ats: &self.ats[..job.cells],
+                    lens: &self.lens[..job.cells],
+                },
+                regions: LentRegions {
+                    rows: &self.region_rows[..job.regions],
+                    cols: &self.region_cols[..job.regions],
+                },
+                pool: &self.pool[..job.used],
+                name: job.name,
+                rules: &self.rules,
+                start: job.start,
+            },
+            limit: job.limit,
+        })
+    }
+}
