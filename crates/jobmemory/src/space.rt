@@ -30,6 +30,8 @@ pub struct JobMemory {
 }
 
 impl JobMemory {
+    // Not inlined: what it makes it of would stay in the caller's frame as long as the caller runs.
+    #[inline(never)]
     pub fn new() -> JobMemory
         ensures { result ≡ blank_memory }
     {
@@ -48,7 +50,8 @@ impl JobMemory {
         }
     }
 
-    // The job that a text says, whatever the memory held before.
+    // The job that a text says, whatever the memory held before. Not inlined, for the same reason.
+    #[inline(never)]
     pub fn read<'a>(&'a mut self, text: &[u8]) -> Result<LimitedJob<'a>, Unread>
         ensures { ReadAs (read text.now) result }
     {
