@@ -26,7 +26,7 @@ extern "C" {
 /* The bytes of stack that wavendiru_whole_job and wavendiru_save_job need on x86-64, with what the loader takes to bind memcpy and memset at
  * their first call. Measured; tests/c/stack fails where it measures more.
  */
-#define WAVENDIRU_STACK 219264
+#define WAVENDIRU_STACK 206272
 
 /* The number of a report, the first field of its second line. Behind it stand place, count and actual; S is the job's starting count.
  * A refusal has no marks. 1, 5 and 6 are refusals of lent columns; no job text has them. 7, 8 and 9 are refusals of deciding, 13 of saving.

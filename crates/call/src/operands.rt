@@ -238,10 +238,13 @@ fn fill(column: &mut [f64], band: Band, x: f64)
 
 // The numbers of another column for each index of a band.
 fn copy(values: &[f64], column: &mut [f64], band: Band)
-    requires { (band.from ≤ band.to) × (band.to ≤ length values.now) × (band.to ≤ length column.old) }
+    requires { (band.to ≤ length values.now) × (band.to ≤ length column.old) }
     ensures { (i : ℕ) → band.from ≤ i → i < band.to → get_or column.new i nan ≡ get_or values.now i nan }
 {
-    column[band.from..band.to].copy_from_slice(&values[band.from..band.to]);
+    // not copy_from_slice, which calls memmove: the archives for C ask for memcpy and memset alone
+    for i in band.from..band.to {
+        column[i] = values[i];
+    }
 }
 
 // The same, where a reference to another sheet reads as nothing, one that is absolute in row and column means one cell from every region,

@@ -5,7 +5,6 @@ ghost use Rattle.jobmemory.specs.ReadAs.{ReadAs, blank_memory};
 
 use model::{LentCells, LentJob, LentRegions, Rules};
 use reader::{Unread, read_job};
-use rulelines::blank_rules;
 
 // A job as it was read, and its limit.
 #[derive(Clone, Copy)]
@@ -26,12 +25,11 @@ pub struct JobMemory {
     region_rows: [u32; 1024],
     region_cols: [u16; 1024],
     pool: [u8; 32768],
-    rules: Rules,
+    rules: Option<Rules>,
 }
 
 impl JobMemory {
-    // Not inlined: what it makes it of would stay in the caller's frame as long as the caller runs.
-    #[inline(never)]
+    // No rules yet: so all of it is zeros, which are made in place.
     pub fn new() -> JobMemory
         ensures { result ≡ blank_memory }
     {
@@ -46,11 +44,12 @@ impl JobMemory {
             region_rows: [0; 1024],
             region_cols: [0; 1024],
             pool: [0; 32768],
-            rules: blank_rules(),
+            rules: None,
         }
     }
 
-    // The job that a text says, whatever the memory held before. Not inlined, for the same reason.
+    // The job that a text says, whatever the memory held before. Not inlined: what reading needs would stay in the caller's frame as long as
+    // the caller runs.
     #[inline(never)]
     pub fn read<'a>(&'a mut self, text: &[u8]) -> Result<LimitedJob<'a>, Unread>
         ensures { ReadAs (read text.now) result }
@@ -68,7 +67,7 @@ impl JobMemory {
             &mut self.region_cols,
             &mut self.pool,
         )?;
-        self.rules = job.rules;
+        let rules = self.rules.insert(job.rules);
         Ok(LimitedJob {
             job: LentJob {
                 cells: LentCells {
@@ -86,7 +85,7 @@ impl JobMemory {
                 },
                 pool: &self.pool[..job.used],
                 name: job.name,
-                rules: &self.rules,
+                rules,
                 start: job.start,
             },
             limit: job.limit,

@@ -1,8 +1,8 @@
 // An answer, and how it is written. The name of a reference, and a text, are in the bytes that were lent for them.
 use model::{A1Reference, Normalized, Split};
+use put::Cursor;
 use ratio::shape_number;
 use readings::text::text_at;
-use std::fmt;
 
 #[derive(Clone, Copy)]
 pub(crate) enum Answer<'a> {
@@ -23,34 +23,42 @@ pub(crate) struct Reference<'a> {
     pub(crate) names: &'a [u8],
 }
 
-// `t`, and each byte as two digits.
-#[derive(Drop)]
-struct Text<'a>(&'a [u8]);
-
 impl From<bool> for Answer<'static> {
     fn from(holds: bool) -> Answer<'static> {
         Answer::Number(u64::from(holds))
     }
 }
 
-impl fmt::Display for Answer<'_> {
-    fn fmt<W: fmt::Write>(&self, f: &mut fmt::Formatter<W>) -> fmt::Result {
-        match *self {
-            Answer::Number(n) => write!(f, "{n}"),
-            Answer::Float(x) if x.is_finite() => write!(f, "n{:016x}", x.to_bits()),
-            Answer::Float(_) => write!(f, "not finite"),
-            Answer::Ratio(Normalized { ppm, shape }) => write!(f, "{ppm} {}", shape_number(shape)),
-            Answer::Place(Split { op, at, width }) => write!(f, "{at} {width} {}", op as u8),
-            Answer::Reference(reference) => write!(f, "{reference}"),
-            Answer::Text(bytes) => write!(f, "{}", Text(bytes)),
-            Answer::NotZero => write!(f, "not zero"),
-            Answer::Nothing => write!(f, "none"),
+impl Answer<'_> {
+    // With the end of its line.
+    pub(crate) fn put(self, out: &mut Cursor) {
+        match self {
+            Answer::Number(n) => out.put_number(n, b'\n'),
+            Answer::Float(x) if x.is_finite() => {
+                out.put_byte(b'n');
+                out.put_hex(16, x.to_bits());
+                out.put_byte(b'\n');
+            }
+            Answer::Float(_) => out.put_bytes(b"not finite\n"),
+            Answer::Ratio(Normalized { ppm, shape }) => {
+                out.put_number(u64::from(ppm), b' ');
+                out.put_number(u64::from(shape_number(shape)), b'\n');
+            }
+            Answer::Place(Split { op, at, width }) => {
+                out.put_number(at as u64, b' ');
+                out.put_number(width as u64, b' ');
+                out.put_number(op as u64, b'\n');
+            }
+            Answer::Reference(reference) => reference.put(out, b'\n'),
+            Answer::Text(bytes) => out.put_text(bytes, b'\n'),
+            Answer::NotZero => out.put_bytes(b"not zero\n"),
+            Answer::Nothing => out.put_bytes(b"none\n"),
         }
     }
 }
 
 // 1 for an absolute row plus 2 for an absolute column.
-fn absolute_number(reference: A1Reference) -> u8 {
+fn absolute_number(reference: A1Reference) -> u64 {
     match (reference.row_absolute, reference.col_absolute) {
         (false, false) => 0,
         (true, false) => 1,
@@ -59,29 +67,22 @@ fn absolute_number(reference: A1Reference) -> u8 {
     }
 }
 
-// As the operand of a job text.
-impl fmt::Display for Reference<'_> {
-    fn fmt<W: fmt::Write>(&self, f: &mut fmt::Formatter<W>) -> fmt::Result {
+impl Reference<'_> {
+    // As the operand of a job text, and the byte that ends it.
+    pub(crate) fn put(self, out: &mut Cursor, end: u8) {
         let A1Reference {
             sheet,
             row,
             col,
             ..
         } = self.reference;
-        write!(f, "r{row},{col},{},", absolute_number(self.reference))?;
+        out.put_byte(b'r');
+        out.put_number(u64::from(row), b',');
+        out.put_number(u64::from(col), b',');
+        out.put_number(absolute_number(self.reference), b',');
         match sheet {
-            None => write!(f, "-"),
-            Some(name) => write!(f, "{}", Text(text_at(self.names, name))),
+            None => out.put_bytes(&[b'-', end]),
+            Some(name) => out.put_text(text_at(self.names, name), end),
         }
-    }
-}
-
-impl fmt::Display for Text<'_> {
-    fn fmt<W: fmt::Write>(&self, f: &mut fmt::Formatter<W>) -> fmt::Result {
-        write!(f, "t")?;
-        for byte in self.0 {
-            write!(f, "{byte:02x}")?;
-        }
-        Ok(())
     }
 }

@@ -1,4 +1,4 @@
-// The arguments of a leaf's line, as the fields of a job text: each reader takes the next one.
+// The arguments of the leaves' lines, as the fields of a job text: each reader takes the next one.
 use fields::Malformed;
 use model::{A1Reference, Cell, CellValue, Span};
 use readings::number::float_of_bits;
@@ -6,20 +6,20 @@ use readings::number::float_of_bits;
 // Where the first text of a line lies: not at the pool's front, so that its place is not 0.
 const FIRST_TEXT: u32 = 9;
 
-// A line and the place up to which it is read, and the pool and the place up to which texts of the line lie in it.
+// Lines and the place up to which they are read, and the pool and the place up to which texts of the last line lie in it.
 #[derive(Drop)]
 pub(crate) struct Arguments<'a> {
-    line: &'a [u8],
+    lines: &'a [u8],
     at: usize,
     pool: &'a mut [u8],
     used: u32,
 }
 
 impl<'a> Arguments<'a> {
-    pub(crate) fn new(line: &'a [u8], at: usize, pool: &'a mut [u8]) -> Arguments<'a> {
+    pub(crate) fn new(lines: &'a [u8], pool: &'a mut [u8]) -> Arguments<'a> {
         Arguments {
-            line,
-            at,
+            lines,
+            at: 0,
             pool,
             used: FIRST_TEXT,
         }
@@ -29,10 +29,9 @@ impl<'a> Arguments<'a> {
         self.pool
     }
 
-    // What is left of the line, with its end.
-    pub(crate) fn rest(&self) -> &[u8] {
-        let at = self.at.min(self.line.len());
-        &self.line[at..]
+    // Whether there is no further line.
+    pub(crate) fn are_read(&self) -> bool {
+        self.lines.len() <= self.at
     }
 
     pub(crate) fn malformed(&self) -> Malformed {
@@ -41,13 +40,35 @@ impl<'a> Arguments<'a> {
 
     // ---- words
 
+    // The name of a leaf, with which a line begins, and the space behind it.
+    pub(crate) fn leaf(&mut self) -> Result<&'a [u8], Malformed> {
+        let start = self.at.min(self.lines.len());
+        let rest = &self.lines[start..];
+        let Some(space) = rest.iter().position(|b| *b == b' ') else {
+            return Err(self.malformed());
+        };
+        self.at = start + space + 1;
+        self.used = FIRST_TEXT;
+        Ok(&rest[..space])
+    }
+
+    // Passes what is left of the line, with its end.
+    pub(crate) fn pass_line(&mut self) {
+        let start = self.at.min(self.lines.len());
+        let rest = &self.lines[start..];
+        self.at = match rest.iter().position(|b| *b == b'\n') {
+            Some(length) => start + length + 1,
+            None => self.lines.len(),
+        };
+    }
+
     pub(crate) fn word(&mut self, word: &[u8]) -> Result<(), Malformed> {
-        self.at = fields::word(self.line, self.at, word)?;
+        self.at = fields::word(self.lines, self.at, word)?;
         Ok(())
     }
 
     fn letter(&mut self) -> Result<u8, Malformed> {
-        let letter = *self.line.get(self.at).ok_or(self.malformed())?;
+        let letter = *self.lines.get(self.at).ok_or(self.malformed())?;
         self.at += 1;
         Ok(letter)
     }
@@ -59,14 +80,14 @@ impl<'a> Arguments<'a> {
     where
         T::Error: Drop,
     {
-        let field = fields::decimal(self.line, self.at, u64::MAX, end)?;
+        let field = fields::decimal(self.lines, self.at, u64::MAX, end)?;
         let number = T::try_from(field.value).map_err(|_| self.malformed())?;
         self.at = field.next;
         Ok(number)
     }
 
     fn bits(&mut self, end: u8) -> Result<u64, Malformed> {
-        let field = fields::bits(self.line, self.at, end)?;
+        let field = fields::bits(self.lines, self.at, end)?;
         self.at = field.next;
         Ok(field.value)
     }
@@ -105,7 +126,7 @@ impl<'a> Arguments<'a> {
 
     // Pairs of digits. The bytes go into the pool, behind the texts that are there.
     fn pairs(&mut self, end: u8) -> Result<Span, Malformed> {
-        let read = fields::text(self.line, self.at, end, self.pool, self.used as usize)?;
+        let read = fields::text(self.lines, self.at, end, self.pool, self.used as usize)?;
         let len = u32::try_from(read.length).map_err(|_| self.malformed())?;
         let used = self.used.checked_add(len).ok_or(self.malformed())?;
         if !read.fits {

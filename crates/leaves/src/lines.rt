@@ -8,53 +8,41 @@ use crate::numbers::{
 use crate::texts::{answer_key, answer_number, answer_split};
 use crate::typed::{answer_reads, answer_typed, answer_writes};
 use fields::Malformed;
-use std::alloc::{AllocError, Global};
 
 // As many bytes as the longest line.
-const BYTES: usize = 65536;
+pub(crate) const BYTES: usize = 65536;
 
 // As many numbers as a line can hold.
-const NUMBERS: usize = 4096;
+pub(crate) const NUMBERS: usize = 4096;
 
 // What the leaves are lent: for the texts of a line, for what a leaf writes, and for a list of numbers.
 #[derive(Drop)]
-pub(crate) struct Lent {
-    pool: Vec<u8>,
-    written: Vec<u8>,
-    values: Vec<f64>,
+pub(crate) struct Lent<'a> {
+    pub(crate) pool: &'a mut [u8],
+    pub(crate) written: &'a mut [u8],
+    pub(crate) values: &'a mut [f64],
 }
 
-impl Lent {
-    pub(crate) fn new(alloc: Global) -> Result<Lent, AllocError> {
-        Ok(Lent {
-            pool: vec![in alloc; 0; BYTES]?,
-            written: vec![in alloc; 0; BYTES]?,
-            values: vec![in alloc; 0.0; NUMBERS]?,
-        })
-    }
-}
-
-// The answer to a line, which ends with its line end.
-pub(crate) fn answer_line<'a>(line: &[u8], lent: &'a mut Lent) -> Result<Answer<'a>, Malformed> {
-    let space = line
-        .iter()
-        .position(|b| *b == b' ')
-        .ok_or(Malformed { at: 0 })?;
-    let arguments = &mut Arguments::new(line, space + 1, &mut lent.pool);
-    match &line[..space] {
+// The answer to the line at which the arguments stand. Bytes are lent for what a leaf writes, values for a list of numbers.
+pub(crate) fn answer_line<'a>(
+    arguments: &mut Arguments,
+    written: &'a mut [u8],
+    values: &mut [f64],
+) -> Result<Answer<'a>, Malformed> {
+    match arguments.leaf()? {
         b"ratio" => answer_ratio(arguments),
         b"normalized" => answer_normalized(arguments),
         b"channel" => answer_channel(arguments),
         b"cellis" => answer_cell_is(arguments),
         b"expr" => answer_expression(arguments),
-        b"midpoint" => answer_midpoint(arguments, &mut lent.values),
+        b"midpoint" => answer_midpoint(arguments, values),
         b"axis" => answer_axis(arguments),
         b"split" => answer_split(arguments),
         b"number" => answer_number(arguments),
         b"key" => answer_key(arguments),
-        b"reads" => answer_reads(arguments, &mut lent.written),
-        b"writes" => answer_writes(arguments, &mut lent.written),
-        b"typed" => answer_typed(arguments),
-        _ => Err(Malformed { at: 0 }),
+        b"reads" => answer_reads(arguments, written),
+        b"writes" => answer_writes(arguments, written),
+        b"typed" => answer_typed(arguments, written),
+        _ => Err(arguments.malformed()),
     }
 }

@@ -9,14 +9,16 @@ mod numbers;
 mod texts;
 mod typed;
 
-use crate::lines::{Lent, answer_line};
+use crate::arguments::Arguments;
+use crate::lines::{BYTES, Lent, NUMBERS, answer_line};
+use put::Cursor;
 use std::io;
-use std::io::{BufRead, BufReader, BufWriter, Read, Write};
+use std::io::{Read, Write};
 
 // How many bytes a line may have before its end.
 const LONGEST_LINE: usize = 65535;
 
-// How many bytes are read at once: a line and its end.
+// How many bytes are held at once: a line and its end.
 const MOST_READ: usize = LONGEST_LINE + 1;
 
 // Twice as many bytes: a quote of a name is two digits of a line, and four of its answer.
@@ -33,40 +35,81 @@ enum Stop {
 
 // ---- lines
 
-// Reads the next line with its end, which the last one may lack. Of a line that is too long one byte too many is read.
-fn read_line<R: Read>(input: &mut BufReader<R>, line: &mut Vec<u8>) -> io::Result<usize> {
-    line.clear();
-    let count = input
-        .by_ref()
-        .take(MOST_READ as u64)
-        .read_until(b'\n', line)?;
-    if count > 0 && !line.ends_with(b"\n") {
-        line.push(b'\n')?;
+// Puts the answers to whole lines, behind so many that are answered: how many are answered then.
+fn put_answers(
+    lines: &[u8],
+    answered: u64,
+    answers: &mut Cursor,
+    lent: &mut Lent,
+) -> Result<u64, Stop> {
+    let mut arguments = Arguments::new(lines, lent.pool);
+    for number in answered..u64::MAX {
+        if arguments.are_read() {
+            return Ok(number);
+        }
+        let Ok(answer) = answer_line(&mut arguments, lent.written, lent.values) else {
+            return Err(Stop::Malformed { number: number + 1 });
+        };
+        answer.put(answers);
     }
-    Ok(count)
+    Ok(u64::MAX)
 }
 
-// Answers are kept back only while whole lines wait. A proved loop has to end, and no input has so many lines.
-fn answer_lines<R: Read, W: Write + Drop>(
-    input: &mut BufReader<R>,
-    output: &mut BufWriter<W>,
-    line: &mut Vec<u8>,
+// Writes the answers to whole lines at once, also those ahead of a malformed one. No answer is longer than twice its line, so they fit.
+fn answer_lines<W: Write>(
+    output: &mut W,
+    lines: &[u8],
+    answered: u64,
+    answers: &mut [u8],
+    lent: &mut Lent,
+) -> Result<u64, Stop> {
+    let mut cursor = Cursor {
+        bytes: answers,
+        at: 0,
+    };
+    let outcome = put_answers(lines, answered, &mut cursor, lent);
+    let end = cursor.at;
+    if answers.len() < end {
+        let error = io::Error::from(io::ErrorKind::InvalidInput);
+        return Err(Stop::Unwritten(error));
+    }
+    output.write_all(&answers[..end]).map_err(Stop::Unwritten)?;
+    outcome
+}
+
+// Answers the lines of each read, and keeps what waits for the rest of its line at the text's front. The last line may lack its end.
+fn answer_all<R: Read, W: Write>(
+    input: &mut R,
+    output: &mut W,
+    text: &mut [u8; MOST_READ],
+    answers: &mut [u8],
     lent: &mut Lent,
 ) -> Result<(), Stop> {
-    for number in 1..=u64::MAX {
-        if !input.buffer().contains(&b'\n') {
-            output.flush().map_err(Stop::Unwritten)?;
-        }
-        if read_line(input, line).map_err(Stop::Unread)? == 0 {
-            break;
-        }
-        if line.len() > MOST_READ {
+    let mut held = 0;
+    let mut answered = 0u64;
+    // a proved loop has to end, and no input has so many reads
+    for _ in 0..u64::MAX {
+        if text.len() <= held {
+            let number = answered.wrapping_add(1);
             return Err(Stop::Long { number });
         }
-        let Ok(answer) = answer_line(line, lent) else {
-            return Err(Stop::Malformed { number });
+        let more = input.read(&mut text[held..]).map_err(Stop::Unread)?;
+        if more == 0 {
+            break;
+        }
+        let filled = held + more;
+        let Some(last) = text[held..filled].iter().rposition(|b| *b == b'\n') else {
+            held = filled;
+            continue;
         };
-        writeln!(output, "{answer}").map_err(Stop::Unwritten)?;
+        let end = held + last + 1;
+        answered = answer_lines(output, &text[..end], answered, answers, lent)?;
+        text.copy_within(end..filled, 0);
+        held = filled - end;
+    }
+    if held > 0 && held < text.len() {
+        text[held] = b'\n';
+        answer_lines(output, &text[..=held], answered, answers, lent)?;
     }
     Ok(())
 }
@@ -89,13 +132,24 @@ fn tell(rt: &(impl Print + Eprint), stop: Stop) -> io::Result<()> {
 }
 
 fn main(rt: HostRuntime) -> io::Result<()> {
-    let alloc = rt.alloc();
-    let mut input = BufReader::with_capacity(alloc, MOST_READ, rt.stdin())?;
-    let mut output = BufWriter::with_capacity(alloc, MOST_WRITTEN, io::writer(&rt))?;
-    let mut line = Vec::with_capacity(alloc, MOST_READ + 1)?;
-    let mut lent = Lent::new(alloc)?;
-    let answered = answer_lines(&mut input, &mut output, &mut line, &mut lent);
-    match output.flush().map_err(Stop::Unwritten).and(answered) {
+    let mut text = [0; MOST_READ];
+    let mut answers = [0; MOST_WRITTEN];
+    let mut pool = [0; BYTES];
+    let mut written = [0; BYTES];
+    let mut values = [0.0; NUMBERS];
+    let mut lent = Lent {
+        pool: &mut pool,
+        written: &mut written,
+        values: &mut values,
+    };
+    let answered = answer_all(
+        &mut rt.stdin(),
+        &mut io::writer(&rt),
+        &mut text,
+        &mut answers,
+        &mut lent,
+    );
+    match answered {
         Ok(()) => Ok(()),
         Err(stop) => tell(&rt, stop),
     }

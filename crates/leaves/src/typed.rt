@@ -5,9 +5,8 @@ use a1reader::{ReadError, parse_a1_reference};
 use a1writer::{WriteError, write_a1_reference};
 use fields::Malformed;
 use model::A1Reference;
+use put::Cursor;
 use readings::text::text_at;
-use std::fmt;
-use std::fmt::Write;
 
 const FILLED: u8 = 165;
 
@@ -84,34 +83,35 @@ pub(crate) fn answer_writes<'a>(
 
 // ---- both
 
-// A writer to which nothing but these bytes can be written.
-#[derive(Drop)]
-struct Said<'a>(&'a [u8]);
-
-impl Write for Said<'_> {
-    fn write_str(&mut self, s: &str) -> fmt::Result {
-        self.0 = self.0.strip_prefix(s.as_bytes()).ok_or(fmt::Error)?;
-        Ok(())
-    }
-}
-
-// The reference and its text, or a number. A name has at most 255 bytes, a text at most 525.
-fn write_forms(said: &mut Said, typed: &[u8]) -> fmt::Result {
+// The reference and its text, or a number, as a line says them: how many bytes. A name has at most 255 bytes, a text at most 525.
+fn put_forms(forms: &mut [u8], typed: &[u8]) -> usize {
     let mut name = [FILLED; 255];
     let mut text = [FILLED; 525];
+    let mut out = Cursor {
+        bytes: forms,
+        at: 0,
+    };
     let read = read_into(typed, &mut name);
     let Answer::Reference(reference) = read else {
-        return writeln!(said, "{read}");
+        read.put(&mut out);
+        return out.at;
     };
+    reference.put(&mut out, b' ');
     let written = write_into(reference.reference, reference.names, &mut text);
-    writeln!(said, "{reference} {written}")
+    written.put(&mut out);
+    out.at
 }
 
 // Whether the rest of the line is the forms and their end.
-pub(crate) fn answer_typed(arguments: &mut Arguments) -> Result<Answer<'static>, Malformed> {
+pub(crate) fn answer_typed(
+    arguments: &mut Arguments,
+    lent: &mut [u8],
+) -> Result<Answer<'static>, Malformed> {
     let span = arguments.text(b' ')?;
-    let typed = text_at(arguments.pool(), span);
-    let mut said = Said(arguments.rest());
-    let written = write_forms(&mut said, typed);
-    Ok(Answer::from(written.is_ok() && said.0.is_empty()))
+    let length = put_forms(lent, text_at(arguments.pool(), span));
+    if let Ok(()) = arguments.word(front(lent, length)) {
+        return Ok(Answer::from(true));
+    }
+    arguments.pass_line();
+    Ok(Answer::from(false))
 }

@@ -1,14 +1,10 @@
-// Lists of jobs in files that a program's arguments name: their numbers, and what is wrong with a list.
+// Lists of jobs: their numbers, and what is wrong with a list.
 #![tactic(auto)]
 
 ghost use Rattle.std.specs.Prelude.{◌≡◌, ◌<◌, ◌≤◌};
 ghost use Rattle.lists.specs.Faults.{told, longer};
 
-use std::env::{Env, FillError};
-use std::fs::File;
-use std::io::Write;
-use std::rt::Files;
-use std::{fmt, io, str};
+use std::fmt;
 
 // What is wrong with a list.
 #[derive(Clone, Copy, Debug, PartialEq, Eq)]
@@ -77,41 +73,4 @@ pub fn offset(place: u64) -> u64
     } else {
         0
     }
-}
-
-// A list by its name. The system may give any bytes for a name, and a path is text.
-fn named<R: Files<File = File> + Print, F: Fn(&str, &File) -> io::Result<()>>(
-    rt: &R,
-    name: &[u8],
-    take: F,
-) -> io::Result<()>
-    requires { F.IsAlwaysCallable take }
-{
-    if let Ok(path) = str::from_utf8(name) {
-        if let Ok(file) = File::open(rt, path) {
-            return take(path, &file);
-        }
-    }
-    io::writer(rt).write_all(name)?;
-    println!(rt; ": NO LIST")
-}
-
-// Gives each list that an argument names to `take`, with its name; how many arguments there are. A name longer than any path is taken for
-// an empty one.
-pub fn each<R: Files<File = File> + Print + Env, F: Fn(&str, &File) -> io::Result<()>>(
-    rt: &R,
-    take: F,
-) -> io::Result<usize>
-    requires { F.IsAlwaysCallable take }
-{
-    for i in 0..usize::MAX {
-        let mut name = [0u8; 4096];
-        let n = match rt.arg(i + 1, &mut name) {
-            Ok(n) => n,
-            Err(FillError::TooLong) => 0,
-            Err(FillError::NotPresent) => return Ok(i),
-        };
-        named(rt, &name[..n], &take)?;
-    }
-    Ok(usize::MAX)
 }

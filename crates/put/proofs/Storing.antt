@@ -5,23 +5,43 @@ use native.Mathlib.Nat.{not-suc-le-zero}
 use native.Mathlib.Numerals.{add-one}
 use native.Mathlib.Omega.{arith}
 use mathlib.Core.Path.{◌≡◌, refl, sym, ap, ◌∙◌}
-use mathlib.Core.List.{List, [], ◌∷◌, append_assoc}
-use lib.ListN.{length, take, drop, get_or, set, length-set, drop_of_length-le}
-use lib.Seq.{drop-cons, sets, sets-eq, set_comm}
-use borrow.Rule.Slice.PartMut.{put_mid}
-use Rattle.std.proofs.lemmas.Slice.{put_mid-paste}
-use Rattle.std.proofs.lemmas.List.Edits.{paste_all}
+use mathlib.Core.List.{List, [], ◌∷◌}
+use lib.ListN.{length, drop, get_or, set, length-set, drop_of_length-le}
+use lib.Seq.{drop-cons, sets, set_comm}
 use Rattle.memory.proofs.Laws.{sets_append}
 use Rattle.grammar.specs.Numbers.{hex_digit, hex_digits, pairs_text}
 use Rattle.grammar.proofs.Hexadecimals.{length_digits}
 
--- ---- all at once
+-- ---- from the first byte on
 
--- a part of d that holds all of ts
-pub stored_whole : (d ts : List ℕ) (at k : ℕ) {xs : List ℕ} → xs ≡ ts → length ts ≡ k → at + length ts ≤ length d
-    → put_mid at k d xs ≡ sets d at ts
-stored_whole d ts at k {xs} same long h =
-    put_mid-paste at k d xs ts (length ts) same long refl ∙ (paste_all d at ts (length ts) refl ∙ (sym (append_assoc (take at d) ts (drop (at + length ts) d)) ∙ sym (sets-eq ts d at h)))
+-- i bytes of ts are stored: with the others, e is d with all of ts in it
+pub record Storing (d : List ℕ) (at : ℕ) (ts e : List ℕ) (i : ℕ) : Type 0 where
+  pub bytes : sets e (at + i) (drop i ts) ≡ sets d at ts
+  pub long : length e ≡ length d
+  pub most : i ≤ length ts
+  pub room : at + length ts ≤ length d
+
+pub storing_begun : {d : List ℕ} {at : ℕ} {ts : List ℕ} → at + length ts ≤ length d → Storing d at ts d 0
+storing_begun {d} {at} {ts} h =
+    let e : at + 0 ≡ at = omega arith in
+    record { bytes = rw e; long = refl; most = omega arith; room = h }
+
+pub storing_more : {d : List ℕ} {at : ℕ} {ts e : List ℕ} {i : ℕ} → Storing d at ts e i → i < length ts
+    → Storing d at ts (set e (at + i) (get_or ts i 0)) (i + 1)
+storing_more {d} {at} {ts} {e} {i} s h =
+    let n : at + suc i ≡ suc (at + i) = omega arith in
+    let next : sets (set e (at + i) (get_or ts i 0)) (at + suc i) (drop (suc i) ts) ≡ sets e (at + i) (drop i ts) =
+    rw (n, drop-cons ts i 0) in
+    record {
+      bytes = rw add-one (next ∙ s.bytes);
+      long = length-set e (at + i) (get_or ts i 0) ∙ s.long;
+      most = omega arith;
+      room = s.room;
+    }
+
+pub storing_done : {d : List ℕ} {at : ℕ} {ts e : List ℕ} {i : ℕ} → Storing d at ts e i → length ts ≤ i → e ≡ sets d at ts
+storing_done {d} {at} {ts} {e} {i} s h =
+    sym (ap (λ (x : List ℕ). sets e (at + i) x) (drop_of_length-le _ h)) ∙ s.bytes
 
 -- ---- from the last digit back
 

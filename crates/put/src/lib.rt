@@ -16,47 +16,23 @@ pub struct Cursor<'a> {
 }
 
 impl Cursor<'_> {
-    // Whether n bytes more are within the lent ones.
-    fn has_room(&self, n: usize) -> bool
-        ensures { result ≡ fits (length self.now.bytes.now) self.now.at n }
-    {
-        let len = self.bytes.len();
-        self.at <= len && n <= len - self.at
-    }
-
-    // A piece of n bytes that does not fit.
-    fn pass_over(&mut self, n: usize)
-        ensures bytes { self.new.bytes.now ≡ replicate (length self.old.bytes.now) 0 }
-        ensures next { self.new.at ≡ place_after self.old.at n }
-        ensures lender { self.new.bytes.ghost_name ≡ self.old.bytes.ghost_name }
-    {
-        self.bytes.fill(0);
-        self.at = self.at.saturating_add(n);
-    }
-
     pub fn put_byte(&mut self, b: u8)
         ensures { Puts self.old (b ∷ []) self.new }
     {
-        self.put_bytes(&[b]);
+        self.at = lay_byte(self.bytes, self.at, b);
     }
 
     pub fn put_bytes(&mut self, piece: &[u8])
         ensures { Puts self.old piece.now self.new }
     {
-        if !self.has_room(piece.len()) {
-            self.pass_over(piece.len());
-            return;
-        }
-        let end = self.at + piece.len();
-        self.bytes[self.at..end].copy_from_slice(piece);
-        self.at = end;
+        self.at = lay_bytes(self.bytes, self.at, piece);
     }
 
     // A number in decimal.
     pub fn put_decimal(&mut self, n: u64)
         ensures { Puts self.old (decimal_text n) self.new }
     {
-        self.at = put_digits(self.bytes, self.at, n);
+        self.at = lay_decimal(self.bytes, self.at, n);
     }
 
     // A number in decimal, and the byte that ends its field.
@@ -71,35 +47,14 @@ impl Cursor<'_> {
     pub fn put_hex(&mut self, k: usize, n: u64)
         ensures { Puts self.old (hex_digits k n) self.new }
     {
-        if !self.has_room(k) {
-            self.pass_over(k);
-            return;
-        }
-        let at = self.at;
-        let mut rest = n;
-        for i in (0..k).rev() {
-            self.bytes[at + i] = hex_digit((rest % 16) as u8);
-            rest /= 16;
-        }
-        self.at = at + k;
+        self.at = lay_hex(self.bytes, self.at, k, n);
     }
 
     // Bytes, each as two hexadecimal digits.
     pub fn put_pairs(&mut self, piece: &[u8])
         ensures { Puts self.old (pairs_text piece.now) self.new }
     {
-        let n = piece.len() * 2;
-        if !self.has_room(n) {
-            self.pass_over(n);
-            return;
-        }
-        let mut end = self.at;
-        for &b in piece {
-            self.bytes[end] = hex_digit(b / 16);
-            self.bytes[end + 1] = hex_digit(b % 16);
-            end += 2;
-        }
-        self.at = end;
+        self.at = lay_pairs(self.bytes, self.at, piece);
     }
 
     // `t`, bytes as pairs of digits, and the byte that ends the field.
@@ -124,28 +79,86 @@ impl Cursor<'_> {
     }
 }
 
-// A byte at a place: the place behind it.
-fn put_digit(text: &mut [u8], at: usize, b: u8) -> usize
+// Each `lay_` puts a piece into bytes from a place on, and gives the place behind. Both are values: where each byte that is stored steps a
+// cursor, a long report takes a quarter longer, and pairs of digits take eight times as long.
+
+// Whether n bytes from a place on are within a length.
+fn has_room(len: usize, at: usize, n: usize) -> bool
+    ensures { result ≡ fits len at n }
+{
+    at <= len && n <= len - at
+}
+
+// A piece of n bytes that does not fit.
+fn pass_over(text: &mut [u8], at: usize, n: usize) -> usize
+    ensures bytes { text.new ≡ replicate (length text.old) 0 }
+    ensures next { result ≡ place_after at n }
+{
+    text.fill(0);
+    at.saturating_add(n)
+}
+
+fn lay_byte(text: &mut [u8], at: usize, b: u8) -> usize
     ensures { Laid text.old at (b ∷ []) text.new result }
 {
     if at < text.len() {
         text[at] = b;
         return at + 1;
     }
-    text.fill(0);
-    at.saturating_add(1)
+    pass_over(text, at, 1)
 }
 
-// A number in decimal at a place. The place goes on as a value: to step the cursor at each digit makes a long report a quarter slower.
-fn put_digits(text: &mut [u8], at: usize, n: u64) -> usize
+fn lay_bytes(text: &mut [u8], at: usize, piece: &[u8]) -> usize
+    ensures { Laid text.old at piece.now text.new result }
+{
+    if !has_room(text.len(), at, piece.len()) {
+        return pass_over(text, at, piece.len());
+    }
+    for (i, &b) in piece.iter().enumerate() {
+        text[at + i] = b;
+    }
+    at + piece.len()
+}
+
+fn lay_decimal(text: &mut [u8], at: usize, n: u64) -> usize
     ensures { Laid text.old at (decimal_text n) text.new result }
 {
     if n < 10 {
-        put_digit(text, at, b'0' + n as u8)
+        lay_byte(text, at, b'0' + n as u8)
     } else {
-        let end = put_digits(text, at, n / 10);
-        put_digit(text, end, b'0' + (n % 10) as u8)
+        let end = lay_decimal(text, at, n / 10);
+        lay_byte(text, end, b'0' + (n % 10) as u8)
     }
+}
+
+fn lay_hex(text: &mut [u8], at: usize, k: usize, n: u64) -> usize
+    ensures { Laid text.old at (hex_digits k n) text.new result }
+{
+    if !has_room(text.len(), at, k) {
+        return pass_over(text, at, k);
+    }
+    let mut rest = n;
+    for i in (0..k).rev() {
+        text[at + i] = hex_digit((rest % 16) as u8);
+        rest /= 16;
+    }
+    at + k
+}
+
+fn lay_pairs(text: &mut [u8], at: usize, piece: &[u8]) -> usize
+    ensures { Laid text.old at (pairs_text piece.now) text.new result }
+{
+    let n = piece.len() * 2;
+    if !has_room(text.len(), at, n) {
+        return pass_over(text, at, n);
+    }
+    let mut end = at;
+    for &b in piece {
+        text[end] = hex_digit(b / 16);
+        text[end + 1] = hex_digit(b % 16);
+        end += 2;
+    }
+    end
 }
 
 // The digit of a number below 16.

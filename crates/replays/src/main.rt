@@ -13,8 +13,11 @@ mod saving;
 use crate::list::Line;
 use crate::saving::Outcome;
 use lists::{Fault, Faulty};
+use std::env::{Env, FillError};
 use std::fs::File;
-use std::{fmt, io};
+use std::io::Write;
+use std::rt::Files;
+use std::{fmt, io, str};
 
 // Room for a job text and for a report of a list, more than the longest of each.
 const TEXT: usize = 131072;
@@ -176,11 +179,39 @@ fn replay_file(rt: &impl Print, name: &str, file: &File) -> io::Result<()> {
     }
 }
 
+// A list by its name. The system may give any bytes for a name, and a path is text.
+fn replay_named<R: Files<File = File> + Print>(rt: &R, name: &[u8]) -> io::Result<()> {
+    if let Ok(path) = str::from_utf8(name) {
+        if let Ok(file) = File::open(rt, path) {
+            return replay_file(rt, path, &file);
+        }
+    }
+    io::writer(rt).write_all(name)?;
+    println!(rt; ": NO LIST")
+}
+
+// The list that the argument at an index names; false where there is no such argument. A name longer than any path is taken for an empty one.
+fn replay_argument<R: Files<File = File> + Print + Env>(rt: &R, i: usize) -> io::Result<bool> {
+    let mut name = [0u8; 4096];
+    let n = match rt.arg(i, &mut name) {
+        Ok(n) => n,
+        Err(FillError::TooLong) => 0,
+        Err(FillError::NotPresent) => return Ok(false),
+    };
+    replay_named(rt, &name[..n])?;
+    Ok(true)
+}
+
 fn main(rt: HostRuntime) -> io::Result<()> {
     let n = memories::differing();
     println!(rt; "read_job: 12 calls over memories one short, exact and longer: {n} differ")?;
-    if lists::each(&rt, |name, file| replay_file(&rt, name, file))? == 0 {
-        println!(rt; "NO LIST is named")?;
+    if !replay_argument(&rt, 1)? {
+        return println!(rt; "NO LIST is named");
+    }
+    for i in 2..usize::MAX {
+        if !replay_argument(&rt, i)? {
+            break;
+        }
     }
     Ok(())
 }

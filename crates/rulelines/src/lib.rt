@@ -143,16 +143,18 @@ fn read_rule_lines(
         (length pool.old) number }
     ensures pooled { Pooled rule_bytes (times_p number rule_line.parse s.now at) used pool.old pool.new }
 {
-    let mut rules = blank_rules();
+    // the records by themselves: with `blank_rules`, a call, each of them is copied field by field
+    let blank = blank_rule();
+    let mut records = [blank; 64];
     let mut next = at;
     let mut used = used;
     for i in 0..number {
         let rule = read_rule(s, next, pool, used)?;
-        rules.records[i] = rule.value;
+        records[i] = rule.value;
         next = rule.next;
         used = rule.used;
     }
-    rules.number = number;
+    let rules = Rules { records, number };
     Ok(RuleSection {
         fits: used <= pool.len(),
         next,

@@ -2,15 +2,35 @@
 // lines of a refused report. A line on standard error says where reading or writing fails.
 #![tactic(auto)]
 
-ghost use Rattle.std.specs.Prelude.{IfErr, IfSome, OnOk, take};
-ghost use Rattle.std.specs.Io.KnownBytes.{Appends};
+ghost use Rattle.std.specs.Prelude.{ℕ, ◌<◌, ◌≤◌, IfErr, IfOk, IfSome, OnOk, MatchResult, length, take};
+ghost use Rattle.std.specs.Io.KnownBytes.{Appends, Consumes, IsAtEnd};
 ghost use Rattle.jobtext.specs.Read.{read};
 ghost use Rattle.savedtext.specs.Resaved.{resaved};
-ghost use Rattle.streams.specs.Made.{Left};
+ghost use Rattle.streams.specs.Failures.{Left};
 
 use std::io;
 use std::io::{Read, Write};
 use streams::Failure;
+
+// Reads until the input ends, a read fails or there is no room: how many bytes.
+fn read_text<R: Read>(reader: &mut R, text: &mut [u8]) -> io::Result<usize>
+    ensures count { IfOk result (λ n. n ≤ length text.new) }
+    ensures bytes { MatchResult result
+        (λ n. Consumes (R.remaining reader.old) (R.remaining reader.new) (take n text.new))
+        (λ _. (n : ℕ) × (n ≤ length text.new) × Consumes (R.remaining reader.old) (R.remaining reader.new) (take n text.new)) }
+    ensures end { IfOk result (λ n. n < length text.new → IsAtEnd (R.remaining reader.new)) }
+{
+    let mut done = 0;
+    // until the input ends: the reader alone knows how many reads that takes
+    while done < text.len() {
+        let more = reader.read(&mut text[done..])?;
+        if more == 0 {
+            break;
+        }
+        done += more;
+    }
+    Ok(done)
+}
 
 // Reads to the end of a job text, or to one byte more than one may have, and writes what the job that it read is saved as.
 fn print_saved<R: Read, W: Write>(reader: &mut R, writer: &mut W) -> Result<(), Failure>
@@ -20,9 +40,11 @@ fn print_saved<R: Read, W: Write>(reader: &mut R, writer: &mut W) -> Result<(), 
 {
     // one byte more than a job text may have
     let mut text = [0u8; 65537];
+    let length = read_text(reader, &mut text).map_err(Failure::Reading)?;
     // the longest job text
     let mut saved = [0u8; 65536];
-    streams::pass(reader, writer, &mut text, &mut saved, resave::save_job)
+    let n = resave::save_job(&text[..length], &mut saved).min(saved.len());
+    writer.write_all(&saved[..n]).map_err(Failure::Writing)
 }
 
 fn main(rt: HostRuntime) -> io::Result<()> {

@@ -1,2 +1,2 @@
 -- Lemmas.
-pub mod Told
+pub mod Reading

@@ -1,2 +1,2 @@
 -- Definitions.
-pub mod Made
+pub mod Failures

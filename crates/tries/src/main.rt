@@ -10,9 +10,12 @@ mod trials;
 use crate::compare::{Tally, one_more};
 use crate::list::List;
 use lists::{Faulty, offset};
+use std::env::{Env, FillError};
 use std::fs::File;
-use std::io;
+use std::io::Write;
 use std::os::unix::fs::FileExt;
+use std::rt::Files;
+use std::{io, str};
 
 // The part of a list that begins at a place, as far as there is room. Where reading fails, it is an empty part.
 fn read_part<'a>(file: &File, place: u64, room: &'a mut [u8]) -> List<'a> {
@@ -44,7 +47,34 @@ fn try_file(rt: &impl Print, name: &str, file: &File) -> io::Result<()> {
     }
 }
 
+// A list by its name. The system may give any bytes for a name, and a path is text.
+fn try_named<R: Files<File = File> + Print>(rt: &R, name: &[u8]) -> io::Result<()> {
+    if let Ok(path) = str::from_utf8(name) {
+        if let Ok(file) = File::open(rt, path) {
+            return try_file(rt, path, &file);
+        }
+    }
+    io::writer(rt).write_all(name)?;
+    println!(rt; ": NO LIST")
+}
+
+// The list that the argument at an index names; false where there is no such argument. A name longer than any path is taken for an empty one.
+fn try_argument<R: Files<File = File> + Print + Env>(rt: &R, i: usize) -> io::Result<bool> {
+    let mut name = [0u8; 4096];
+    let n = match rt.arg(i, &mut name) {
+        Ok(n) => n,
+        Err(FillError::TooLong) => 0,
+        Err(FillError::NotPresent) => return Ok(false),
+    };
+    try_named(rt, &name[..n])?;
+    Ok(true)
+}
+
 fn main(rt: HostRuntime) -> io::Result<()> {
-    lists::each(&rt, |name, file| try_file(&rt, name, file))?;
+    for i in 1..usize::MAX {
+        if !try_argument(&rt, i)? {
+            break;
+        }
+    }
     Ok(())
 }

@@ -1,12 +1,12 @@
--- `marks::print_report`: what the job leaves for a text is its report, since the lent bytes are as many as the longest. Assumes nothing.
-use Rattle.std.proofs.Common.{◌≡◌, ◌≤◌, ◌-◌, ℕ, List, length, take, replicate, arith, sym, ap, ◌∙◌}
+-- `marks::print_report`: what was read is the input, or its first 65,537 bytes, and what is written is the report on that, since the lent
+-- bytes are as many as the longest. Assumes nothing.
+use Rattle.std.proofs.Common.{◌≡◌, ◌≤◌, ◌-◌, ℕ, List, length, take, replicate, arith, ap, ◌∙◌}
 use Rattle.std.proofs.Math.Seq.{take-append_seam}
-use Rattle.std.proofs.lemmas.List.{length-replicate}
 use Rattle.memory.specs.Memory.{page, page_length}
 use Rattle.memory.proofs.Laws.{text_fits}
 use Rattle.reporttext.specs.Reports.{report_on}
 use Rattle.whole.proofs.Longest.{whole_longest}
-use Rattle.streams.proofs.Told.{written_as}
+use Rattle.streams.proofs.Reading.{before, onto, cut, told_of_all}
 use Rattle.marks.proofs.print_report.Goals as goal
 
 -- a text that fits is at the front
@@ -17,7 +17,9 @@ front n r ts bytes h e b =
 
 pub returns-clause-printed : goal.returns-clause-printed
 returns-clause-printed g c =
-    written_as c.pass.result _ _ _ 65_537 (replicate 45_033 0) report_on c.pass.ensures.passed
-    (λ text n left m.
-    let room : length m.given.now ≡ 45_033 = ap length m.gives ∙ length-replicate {A = ℕ} 45_033 0 in
-    ap (take n) (sym m.leaves) ∙ front _ n _ _ (omega (arith, whole_longest m.shown.now)) m.met.0 m.met.1 ∙ ap report_on m.shows)
+    let n = c.in_ok-length.length in
+    let read = c.read_text in
+    let told = front _ _ _ _ (omega (arith, whole_longest (take n read.new.text))) c.whole_job.ensures.length c.whole_job.ensures.bytes in
+    onto c.write_all.result c.map_err-2.result c.map_err-2.ensures.variant c.write_all.ensures.bytes
+    (told_of_all report_on 65_537 read.new.text _ _ _ (omega arith) _ read.result n _ _ (before _ c.map_err.result _ n c.map_err.ensures.variant c.map_err.ensures.cases c.in_ok-length.was) read.ensures.count read.ensures.bytes read.ensures.end
+    (ap (λ k. take k c.whole_job.new.report) c.min-n.ensures ∙ cut c.whole_job.result 45_033 c.whole_job.new.report (omega arith) ∙ told))

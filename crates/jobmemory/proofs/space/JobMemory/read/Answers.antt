@@ -67,4 +67,4 @@ pub shared_ref_as_front-result-10 : goal.shared_ref_as_front-result-10
 shared_ref_as_front-result-10 c = (read_is (goal.at.shared_ref_as_front-result-10 c).After-read_job c.in_ok-job.was).used
 
 pub returns : goal.returns
-returns c = let r = read_is (goal.at.returns c).After-read_job c.in_ok-job.was in rw r.says (r.holds, r.limit)
+returns c = let r = read_is (goal.at.returns c).After-read_job c.in_ok-job.was in rw (r.says, c.insert-rules.ensures.value) (r.holds, r.limit)

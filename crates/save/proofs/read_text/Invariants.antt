@@ -1,8 +1,8 @@
--- `streams::read_text` counts bytes of `text`. The loop's invariant: `done` is within `text`, which has the length that it had, and the first
+-- `save::read_text` counts bytes of `text`. The loop's invariant: `done` is within `text`, which has the length that it had, and the first
 -- `done` bytes of it are those that the reader has given. The measure is what is left of it. Assumes nothing.
 use Rattle.std.proofs.Common.{length, ◌-◌, ◌≤◌, take, ◌≡◌}
 use Rattle.std.specs.Io.KnownBytes.{Consumes}
-use Rattle.streams.proofs.read_text.Given as goal
+use Rattle.save.proofs.read_text.Given as goal
 
 abbrev pub invariant-loop-done : goal.invariant-loop-done
 invariant-loop-done g l =
