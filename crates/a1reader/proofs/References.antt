@@ -157,3 +157,11 @@ module _ (operand : List ℕ) {t : List ℕ} (f : t ≡ formula operand) (l : Li
           answer = rw (o, le-leb (length name) (length l) fits, named, w.named.part.at);
           bytes = rw o (kept ∙ (rw (stored, w.named.part.bytes, size) (stored_page l name fits)));
         }
+
+-- bytes that are no reference, said of a text whose parts were looked for
+module _ (t operand l : List ℕ) (f : t ≡ formula operand) (none_there : None ≡ parts_of t (name_of (name_p t 0))) where
+  pub none_answer : Err ReadError.NoReference ≡ read_answer (operand_read operand) (length l)
+  none_answer = let a = answered_none operand f l {e = kept_bytes l 0} (whole_none t none_there) refl in a.answer
+
+  pub none_bytes : {e : List ℕ} → e ≡ kept_bytes l 0 → e ≡ read_bytes (operand_read operand) (length l)
+  none_bytes {e} k = let a = answered_none operand f l {e = e} (whole_none t none_there) k in a.bytes

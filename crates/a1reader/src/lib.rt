@@ -264,6 +264,7 @@ fn sheet_name(part: NamePart) -> Option<Span>
 }
 
 // In place of parse_a1_reference of the original's crate, which is not shown. What the split drops is dropped first.
+#[tactic(auto, using(crate::proofs::References::none_answer, crate::proofs::References::none_bytes))]
 pub fn parse_a1_reference(bytes: &[u8], name: &mut [u8]) -> Result<A1Reference, ReadError>
     ensures answer { result ≡ read_answer (operand_read bytes.now) (length name.old) }
     ensures name { name.new ≡ read_bytes (operand_read bytes.now) (length name.old) }

@@ -79,8 +79,8 @@ impl Cursor<'_> {
     }
 }
 
-// Each `lay_` puts a piece into bytes from a place on, and gives the place behind. Both are values: where each byte that is stored steps a
-// cursor, a long report takes a quarter longer, and pairs of digits take eight times as long.
+// Each `lay_` puts a piece into bytes from a place on, and gives the place behind: bytes and place are its own, and not read from a cursor
+// at each byte, by which a long report takes a quarter longer, and pairs of digits eight times as long.
 
 // Whether n bytes from a place on are within a length.
 fn has_room(len: usize, at: usize, n: usize) -> bool

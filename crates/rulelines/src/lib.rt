@@ -143,7 +143,7 @@ fn read_rule_lines(
         (length pool.old) number }
     ensures pooled { Pooled rule_bytes (times_p number rule_line.parse s.now at) used pool.old pool.new }
 {
-    // the records by themselves: with `blank_rules`, a call, each of them is copied field by field
+    // the records by themselves: as a part of `Rules` each of them is moved field by field
     let blank = blank_rule();
     let mut records = [blank; 64];
     let mut next = at;

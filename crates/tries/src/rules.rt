@@ -122,6 +122,8 @@ fn rule_of(w: &Words) -> Rule {
     }
 }
 
+// Not inlined: the words would stay in the caller's frame, below the call that is tried.
+#[inline(never)]
 pub(crate) fn read_rules(list: &mut List) -> Result<Rules, Faulty> {
     let number = list.number()?;
     let mut words = [[0; 32]; 64];

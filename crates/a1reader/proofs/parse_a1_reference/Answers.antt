@@ -5,14 +5,9 @@ use native.Mathlib.Omega.{arith}
 use lib.ListN.{length}
 use Rattle.a1reader.specs.declared.Word.{Word}
 use Rattle.a1reader.specs.Parts.{word_in}
-use Rattle.a1reader.proofs.References.{Whole, whole_none, whole_read, answered_none, answered_long, answered_read}
+use Rattle.a1reader.proofs.References.{Whole, whole_read, answered_long, answered_read}
 use Rattle.a1reader.proofs.parse_a1_reference.Goals as goal
 use Rattle.a1reader.proofs.parse_a1_reference.Goals.{After-unwrap_or-word}
-
-pub returns-in_default : goal.returns-in_default
-returns-in_default c =
-    let a = answered_none _ c.formula-text.ensures c.args.name.now (whole_none _ c.in_default.ensures) c.clear_from.ensures in
-    record { answer = a.answer; name = a.bytes }
 
 whole : (c : After-unwrap_or-word) → Whole c.formula-text.result.now c.in-Some.field-0.sheet c.in-Some.field-0.cell
 whole c = whole_read _ c.in-Some.ensures
