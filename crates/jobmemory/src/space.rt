@@ -1,10 +1,11 @@
 // The memory, and a job as it lies there.
 ghost use Rattle.std.specs.Prelude.{◌≡◌};
 ghost use Rattle.jobtext.specs.Read.{read};
-ghost use Rattle.jobmemory.specs.ReadAs.{ReadAs, blank_memory};
+ghost use Rattle.jobmemory.specs.ReadAs.{ReadAs, blank_memory, empty_memory};
 
 use model::{LentCells, LentJob, LentRegions, Rules};
 use reader::{Unread, read_job};
+use rulelines::blank_rules;
 
 // A job as it was read, and its limit.
 #[derive(Clone, Copy)]
@@ -30,8 +31,8 @@ pub struct JobMemory {
 
 impl JobMemory {
     // No rules yet: so all of it is zeros, which are made in place.
-    pub fn new() -> JobMemory
-        ensures { result ≡ blank_memory }
+    pub fn empty() -> JobMemory
+        ensures { result ≡ empty_memory }
     {
         JobMemory {
             rows: [0; 1024],
@@ -45,6 +46,18 @@ impl JobMemory {
             region_cols: [0; 1024],
             pool: [0; 32768],
             rules: None,
+        }
+    }
+
+    // Blank records for rules, of which none counts. Not inlined: what it makes it of would stay in the caller's frame as long as the caller
+    // runs.
+    #[inline(never)]
+    pub fn new() -> JobMemory
+        ensures { result ≡ blank_memory }
+    {
+        JobMemory {
+            rules: Some(blank_rules()),
+            ..JobMemory::empty()
         }
     }
 
@@ -90,5 +103,27 @@ impl JobMemory {
             },
             limit: job.limit,
         })
+    }
+}
+
+#[cfg(test)]
+mod tests {
+    use super::*;
+
+    #[test]
+    fn a_job_is_read_into_new_memory(rt: HostRuntime) {
+        let text = b"limit start cells regions rules name\n100 7 1 1 1 t53\n\
+            row col wraps value\n0 0 0 n3ff0000000000000\n\
+            row col\n0 0\n\
+            top left bottom right priority stop imported rule p1 p2 p3 p4\n0 0 0 0 - 0 0 bar 00ff00 - - -\n";
+        let mut memory = JobMemory::new();
+        match memory.read(text) {
+            Ok(read) => {
+                assert_eq!(rt; read.limit, 100);
+                assert_eq!(rt; read.job.start, 7);
+                assert_eq!(rt; read.job.rules.declared().len(), 1);
+            }
+            Err(_) => assert!(rt; false, "the text is one of a job"),
+        }
     }
 }

@@ -140,7 +140,7 @@ fn rounds(text: &[u8], number: u64, job: &LentJob, limit: u64) -> u64 {
 
 // Reads a job text, and fills it. Its number in the list is the seed.
 pub(crate) fn differing(text: &[u8], number: u64) -> u64 {
-    let mut memory = JobMemory::new();
+    let mut memory = JobMemory::empty();
     match memory.read(text) {
         Ok(read) => rounds(text, number, &read.job, read.limit),
         Err(_) => ROUNDS,

@@ -33,7 +33,7 @@ pub fn save_job(text: &[u8], saved: &mut [u8]) -> usize
     ensures bytes { saved.new ≡ page (length saved.old) (resaved (length saved.old)
         (read text.now)) }
 {
-    let mut memory = JobMemory::new();
+    let mut memory = JobMemory::empty();
     match memory.read(text) {
         Ok(read) => {
             let answer = write_job(read.job, read.limit, saved);

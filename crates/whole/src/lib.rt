@@ -13,7 +13,7 @@ pub fn whole_job(text: &[u8], report: &mut [u8]) -> usize
     ensures length { result ≡ page_length (length report.old) (report_on text.now) }
     ensures bytes { report.new ≡ page (length report.old) (report_on text.now) }
 {
-    let mut memory = JobMemory::new();
+    let mut memory = JobMemory::empty();
     match memory.read(text) {
         Ok(read) => decide::decide_job(read.job, read.limit, report),
         Err(unread) => report_unread(unread, report),
