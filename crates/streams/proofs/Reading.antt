@@ -1,5 +1,6 @@
 -- A text that is read piece by piece, and what is written of it, said of all that there was to read. Assumes nothing.
-use Rattle.std.proofs.Common.{◌≡◌, ◌<◌, ◌≤◌, ◌+◌, ◌-◌, min, None, Some, Ok, Err, Option, Result, IfOk, IfSome, OnOk, MatchResult, is_ok, length, take, slice_range, ℕ, Bool, true, false, leb, List, [], ◌++◌, sym, ap, ◌∙◌, subst, arith, length-take-le, take_all, drop_at, le_refl, refl}
+use Rattle.std.proofs.Common.{◌≡◌, ◌<◌, ◌≤◌, ◌+◌, ◌-◌, min, None, Some, Ok, Err, Option, Result, IfOk, IfSome, OnOk, MatchResult, is_ok, length, take, slice_range}
+use Rattle.std.proofs.Common.{ℕ, Bool, true, false, leb, List, [], ◌++◌, sym, ap, ◌∙◌, subst, arith, length-take-le, take_all, drop_at, le_refl, refl}
 use Rattle.std.proofs.lemmas.List.{append-nil, take-append-le, take_min}
 use Rattle.std.proofs.lemmas.Slice.{take-put_mid_below}
 use Rattle.std.specs.Io.KnownBytes.{Appends, Consumes, IsAtEnd}

@@ -21,5 +21,6 @@ returns-clause-printed g c =
     let read = c.read_text in
     let told = front _ _ _ _ (omega (arith, whole_longest (take n read.new.text))) c.whole_job.ensures.length c.whole_job.ensures.bytes in
     onto c.write_all.result c.map_err-2.result c.map_err-2.ensures.variant c.write_all.ensures.bytes
-    (told_of_all report_on 65_537 read.new.text _ _ _ (omega arith) _ read.result n _ _ (before _ c.map_err.result _ n c.map_err.ensures.variant c.map_err.ensures.cases c.in_ok-length.was) read.ensures.count read.ensures.bytes read.ensures.end
+    (told_of_all report_on 65_537 read.new.text _ _ _ (omega arith) _ read.result n _ _
+    (before _ c.map_err.result _ n c.map_err.ensures.variant c.map_err.ensures.cases c.in_ok-length.was) read.ensures.count read.ensures.bytes read.ensures.end
     (ap (λ k. take k c.whole_job.new.report) c.min-n.ensures ∙ cut c.whole_job.result 45_033 c.whole_job.new.report (omega arith) ∙ told))

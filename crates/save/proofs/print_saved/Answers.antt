@@ -22,5 +22,6 @@ returns-clause-printed g c =
     let input = c.read_text in
     let told = front _ _ _ _ (resaved_most _ (omega arith) (read (take n input.new.text))) c.save_job.ensures.length c.save_job.ensures.bytes in
     onto c.write_all.result c.map_err-2.result c.map_err-2.ensures.variant c.write_all.ensures.bytes
-    (told_of_all (λ text. resaved 65_536 (read text)) 65_537 input.new.text _ _ _ (omega arith) _ input.result n _ _ (before _ c.map_err.result _ n c.map_err.ensures.variant c.map_err.ensures.cases c.in_ok-length.was) input.ensures.count input.ensures.bytes input.ensures.end
+    (told_of_all (λ text. resaved 65_536 (read text)) 65_537 input.new.text _ _ _ (omega arith) _ input.result n _ _
+    (before _ c.map_err.result _ n c.map_err.ensures.variant c.map_err.ensures.cases c.in_ok-length.was) input.ensures.count input.ensures.bytes input.ensures.end
     (ap (λ k. take k c.save_job.new.saved) c.min-n.ensures ∙ cut c.save_job.result 65_536 c.save_job.new.saved (omega arith) ∙ told))
